@@ -1,0 +1,108 @@
+-- Document 01, "Journal": its worked journal and small ones, printed by computation; and as many turns as bytes suffice.
+use Prim.Native.Nat.{ℕ, zero, suc, _+_, _*_, _≤_}
+use Prim.Native.String.{String}
+use Prim.Native.Char.{code}
+use mathlib.Core.Path.{_≡_, refl, ap}
+use mathlib.Core.Bool.{Bool, true, false, cond, _&&_}
+use mathlib.Core.List.{List, [], _∷_}
+use native.Mathlib.Omega.{arith}
+use lib.Dec.{leb, eqb}
+use lib.ListN.{length, take, drop, length-drop}
+use Rattle.standard.specs.Computed.{computed}
+use Rattle.standard.specs.Journal.{payload, gapNotice, resetNotice, Step, whole, more, unknown, payloadStep, step, entered, journalFrom, printed}
+
+-- Printed
+
+-- a text as its bytes
+abbrev pub ascii : String → List ℕ
+ascii String.[] = []
+ascii (String._∷_ c s) = code c ∷ ascii s
+
+abbrev pub Prints : List ℕ → String → Type 0
+Prints s text = printed s ≡ ascii text
+
+-- the journal of document 01
+pub worked : Prints (0x47 ∷ 0x50 ∷ 0x50 ∷ 0x4c ∷ 0x00 ∷ 0x06 ∷ 0x01 ∷ 0x04 ∷ 0x48 ∷ 0x00 ∷ 0x06 ∷ 0x00 ∷ 0x50 ∷ 0x4c ∷ 0x00 ∷ 0x00 ∷ 0x50 ∷ 0x4c ∷ 0x00 ∷ [])
+    "1 0 gap\n2 2 ok 1 1 1\n3 12 no 1 1 0\ntorn 16\n"
+unfolding computed
+worked = refl
+
+pub empty : Prints [] "end 0\n"
+unfolding computed
+empty = refl
+
+pub lone-byte : Prints (0x50 ∷ []) "torn 0\n"
+unfolding computed
+lone-byte = refl
+
+pub unknown-mark : Prints (0x50 ∷ 0x47 ∷ []) "mark 0\n"
+unfolding computed
+unknown-mark = refl
+
+pub gap-and-lone-byte : Prints (0x47 ∷ 0x50 ∷ 0x47 ∷ []) "1 0 gap\ntorn 2\n"
+unfolding computed
+gap-and-lone-byte = refl
+
+pub torn-length : Prints (0x50 ∷ 0x4c ∷ 0x00 ∷ []) "torn 0\n"
+unfolding computed
+torn-length = refl
+
+pub torn-payload : Prints (0x50 ∷ 0x4c ∷ 0x01 ∷ 0x00 ∷ 0x40 ∷ []) "torn 0\n"
+unfolding computed
+torn-payload = refl
+
+-- a reset ends the doubt that a gap began
+pub gap-and-reset : Prints (0x47 ∷ 0x50 ∷ 0x52 ∷ 0x53 ∷ 0x50 ∷ 0x4c ∷ 0x00 ∷ 0x06 ∷ 0x01 ∷ 0x04 ∷ 0x48 ∷ 0x00 ∷ 0x06 ∷ 0x00 ∷ [])
+    "1 0 gap\n2 2 reset\n3 4 ok 1 1 0\nend 3\n"
+unfolding computed
+gap-and-reset = refl
+
+-- Turns
+
+-- a whole record has 2 bytes at least
+abbrev Sized : Step → Type 0
+Sized (whole r k) = 2 ≤ k
+Sized more = Unit {0}
+Sized unknown = Unit {0}
+
+payload-sized : (s : List ℕ) → Sized (payloadStep s)
+unfolding payloadStep
+payload-sized [] = tt
+payload-sized (high ∷ []) = tt
+payload-sized (high ∷ low ∷ s) = go (leb (high * 256 + low) (length s))
+  where
+    go : (b : Bool) → Sized (cond b (whole (payload (take (high * 256 + low) s)) (high * 256 + low + 4)) more)
+    go true = omega arith
+    go false = tt
+
+step-sized : (s : List ℕ) → Sized (step s)
+unfolding step
+step-sized [] = tt
+step-sized (a ∷ []) = tt
+step-sized (a ∷ b ∷ s) = go (eqb a 0x50 && eqb b 0x4c) (eqb a 0x47 && eqb b 0x50) (eqb a 0x52 && eqb b 0x53)
+  where
+    go : (isPayload isGap isReset : Bool) → Sized (cond isPayload (payloadStep s) (cond isGap (whole gapNotice 2) (cond isReset (whole resetNotice 2) unknown)))
+    go true isGap isReset = payload-sized s
+    go false true isReset = omega arith
+    go false false true = omega arith
+    go false false false = tt
+
+enough : (m n at : ℕ) (s : List ℕ) → length s ≤ m → length s ≤ n → journalFrom m at s ≡ journalFrom n at s
+unfolding journalFrom step
+enough zero zero at s h k = refl
+enough zero (suc n) at [] h k = refl
+enough zero (suc n) at (a ∷ s) h k = absurd (omega arith)
+enough (suc m) zero at [] h k = refl
+enough (suc m) zero at (a ∷ s) h k = absurd (omega arith)
+enough (suc m) (suc n) at s h k = go (step s) refl (step-sized s) (λ j. enough m n (at + j) (drop j s))
+  where
+    go : (x : Step) → step s ≡ x → Sized x
+        → ((j : ℕ) → length (drop j s) ≤ m → length (drop j s) ≤ n → journalFrom m (at + j) (drop j s) ≡ journalFrom n (at + j) (drop j s))
+        → journalFrom (suc m) at s ≡ journalFrom (suc n) at s
+    go (whole r j) e l f = let d = length-drop j s in rw (e, journalFrom) (ap (entered _) (f j (omega arith) (omega arith)))
+    go more e l f = rw (e, journalFrom)
+    go unknown e l f = rw (e, journalFrom)
+
+-- as many turns as bytes suffice: more change nothing
+pub turns-suffice : (n at : ℕ) (s : List ℕ) → length s ≤ n → journalFrom n at s ≡ journalFrom (length s) at s
+turns-suffice n at s h = enough n (length s) at s h (omega arith)

@@ -1,0 +1,78 @@
+-- What is laid out in a table is read back: rows, timings and the retained state.
+use Prim.Native.Nat.{ℕ, zero, suc, _+_, _*_, _-_, _≤_, _<_}
+use mathlib.Core.Path.{_≡_, refl, sym, _∙_, ap}
+use mathlib.Core.Bool.{true}
+use mathlib.Core.List.{List, [], _∷_, _++_, append-assoc}
+use native.Mathlib.Omega.{arith}
+use native.Mathlib.Nat.{zero-mul}
+use lib.IntN.{ℤ, pos}
+use lib.ListN.{length, getD, take, drop, replicate, length-append, length-drop, length-replicate}
+use lib.Seq.{drop-append-add}
+use Rattle.standard.specs.Numbers.{rowWidth, objectLimit, retainedHead, retainedLength}
+use Rattle.standard.specs.Tree.{Timing}
+use Rattle.standard.specs.Rows.{Row, State, noRow}
+use Rattle.standard.specs.Tables.{rowNumbers, rowOf, rowsNumbers, rowsOf, timingNumbers, timingsOf, countOf, stateOf, stateNumbers}
+use Rattle.standard.specs.Calls.{over, rowPart}
+
+pub over-length : {A : Type 0} (new l : List A) → length new ≤ length l → length (over new l) ≡ length l
+over-length new l h = simp (length-append, length-drop) (omega arith)
+
+-- One row
+
+row-back : (r : Row) (z : List ℤ) → rowOf (take rowWidth (rowNumbers r ++ z)) ≡ r
+unfolding rowOf rowNumbers rowWidth
+row-back r z = refl
+
+row-rest : (r : Row) (z : List ℤ) → drop rowWidth (rowNumbers r ++ z) ≡ z
+unfolding rowNumbers rowWidth
+row-rest r z = refl
+
+row-length : (r : Row) (z : List ℤ) → length (rowNumbers r ++ z) ≡ rowWidth + length z
+unfolding rowNumbers rowWidth
+row-length r z = omega arith
+
+-- Rows
+
+pub rows-back : (rs : List Row) (z : List ℤ) → rowsOf (length rs) (rowsNumbers rs ++ z) ≡ rs
+unfolding rowsOf rowsNumbers
+rows-back [] z = refl
+rows-back (r ∷ rs) z =
+    rw (append-assoc (rowNumbers r) (rowsNumbers rs) z, row-back r (rowsNumbers rs ++ z), row-rest r (rowsNumbers rs ++ z))
+    (ap (λ q. r ∷ q) (rows-back rs z))
+
+pub rows-length : (rs : List Row) → length (rowsNumbers rs) ≡ length rs * rowWidth
+unfolding rowsNumbers rowWidth
+rows-length [] = refl
+rows-length (r ∷ rs) = let e = row-length r (rowsNumbers rs) in let h = rows-length rs in omega arith
+
+row-past : (r : Row) (z : List ℤ) (i : ℕ) → drop (suc i * rowWidth) (rowNumbers r ++ z) ≡ drop (i * rowWidth) z
+unfolding rowNumbers rowWidth
+row-past r z i = let e : suc i * 15 ≡ 15 + i * 15 = omega arith in rw e (drop-append-add (rowNumbers r) z (i * 15))
+
+-- row i of those that were laid out
+pub part-back : (rs : List Row) (z : List ℤ) (i : ℕ) → i < length rs → rowOf (rowPart (rowsNumbers rs ++ z) i) ≡ getD rs i noRow
+unfolding rowPart rowsNumbers
+part-back [] z i h = absurd (omega arith)
+part-back (r ∷ rs) z zero h = rw (append-assoc (rowNumbers r) (rowsNumbers rs) z, zero-mul rowWidth) (row-back r (rowsNumbers rs ++ z))
+part-back (r ∷ rs) z (suc i) h =
+    rw (append-assoc (rowNumbers r) (rowsNumbers rs) z, row-past r (rowsNumbers rs ++ z) i) (part-back rs z i (omega arith))
+
+-- Timings
+
+pub timings-back : (ts : List Timing) (z : List ℕ) → timingsOf (length ts) (timingNumbers ts ++ z) ≡ ts
+unfolding timingsOf timingNumbers
+timings-back [] z = refl
+timings-back (t ∷ ts) z = ap (λ q. t ∷ q) (timings-back ts z)
+
+-- The retained state
+
+pub state-back : (st : State) (l : List ℤ) → stateOf (over (stateNumbers st) l) ≡ st
+unfolding stateOf stateNumbers countOf retainedHead
+state-back st l = λ i. record { doubt = st .doubt; rows = rows i }
+  where
+    rows : rowsOf (length (st .rows)) (drop 2 (over (stateNumbers st) l)) ≡ st .rows
+    rows = rw (append-assoc (rowsNumbers (st .rows)) _ _) (rows-back (st .rows) _)
+
+pub state-length : (st : State) → length (st .rows) ≤ objectLimit → length (stateNumbers st) ≡ retainedLength
+unfolding stateNumbers retainedLength
+state-length st h = let e = rows-length (st .rows) in simp (length-append, length-replicate) (omega arith)

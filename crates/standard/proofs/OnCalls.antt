@@ -1,0 +1,64 @@
+-- Demand 3 of the calls and the tables that they leave.
+use Prim.Native.Nat.{ℕ, _*_}
+use mathlib.Core.Path.{_≡_, refl, sym, _∙_}
+use mathlib.Core.List.{List}
+use lib.IntN.{ℤ}
+use lib.ListN.{length}
+use Rattle.bits.specs.Parsed.{Refusal}
+use Rattle.standard.specs.Tree.{Tree}
+use Rattle.standard.specs.Rows.{State, fresh}
+use Rattle.standard.specs.Meaning.{frameRows}
+use Rattle.standard.specs.Tables.{rowsOf, timingsOf, stateOf}
+use Rattle.standard.specs.Calls.{Lent, Done, accept, decline, decode}
+use Rattle.standard.specs.Events.{Event, run, Beside, lend, firstCall, secondCall}
+use Rattle.standard.proofs.Small.{Pairs}
+use Rattle.standard.proofs.Agreement.{RowAgree}
+use Rattle.standard.proofs.Blocks.{blocks-pairs}
+use Rattle.standard.proofs.Demand3.{StartAgree, nothing-agrees, Agreement, demand3}
+use Rattle.standard.proofs.Frame.{starts-written, blocks-written, timings-written}
+use Rattle.standard.proofs.Tabled.{Enough, Holds, first-run, second-run, two-calls}
+
+-- Demand 3
+
+-- the frame tables of two calls, over n objects and m blocks
+pub record FramesAgree (n m : ℕ) (x y : Lent) : Type 0 where
+  pub timings : timingsOf m (x .timings) ≡ timingsOf m (y .timings)
+  pub starts : Pairs StartAgree (rowsOf n (x .start)) (rowsOf n (y .start))
+  pub blocks : Pairs RowAgree (rowsOf (m * n) (x .blocks)) (rowsOf (m * n) (y .blocks))
+
+pub record CallsAgree (x y : Done) : Type 0 where
+  pub verdict : x .answer .verdict ≡ y .answer .verdict  -- number, context, place
+  pub objects : x .answer .objects ≡ y .answer .objects
+  pub blocks : x .answer .blocks ≡ y .answer .blocks
+  pub frames : FramesAgree (x .answer .objects) (x .answer .blocks) (x .lent) (y .lent)
+
+accept-agree : (x y : Lent) (a b : State) (t : Tree) → Agreement a b t → CallsAgree (accept x a t) (accept y b t)
+unfolding accept
+accept-agree x y a b t h =
+    record {
+      verdict = refl;
+      objects = refl;
+      blocks = refl;
+      frames = record {
+        timings = timings-written x a t ∙ sym (timings-written y b t);
+        starts = rw (starts-written x a t, starts-written y b t) (h .starts);
+        blocks = rw (blocks-written x a t, blocks-written y b t) (blocks-pairs RowAgree nothing-agrees (length (t .timings)) 0 (frameRows a t) (frameRows b t) (h .blocks));
+      };
+    }
+
+nothing-written : (x y : Lent) → FramesAgree 0 0 x y
+unfolding timingsOf rowsOf
+nothing-written x y = record { timings = refl; starts = tt; blocks = tt }
+
+decline-agree : (x y : Lent) (r : Refusal) → CallsAgree (decline x r) (decline y r)
+unfolding decline
+decline-agree x y r = record { verdict = refl; objects = refl; blocks = refl; frames = nothing-written _ _ }
+
+-- Two decoders start fresh and get the same resets; the second gets a gap notice in place of some payloads. Then a payload comes that both hear.
+pub demand3-calls : (b c : Beside) (l m : List ℤ) (es : List Event) (s : List ℕ) → Enough b → Enough c → Holds l fresh → Holds m fresh
+    → CallsAgree (decode s (lend b (run (firstCall b) l es))) (decode s (lend c (run (secondCall c) m es)))
+demand3-calls b c l m es s hb hc hl hm =
+    let x = first-run b l es hb hl in
+    let y = second-run c m es hc hm in
+    two-calls (Agreement (stateOf (run (firstCall b) l es)) (stateOf (run (secondCall c) m es))) s (rw (x .state, y .state) (demand3 es s)) CallsAgree b c (run (firstCall b) l es) (run (secondCall c) m es) hb hc (x .good) (y .good)
+    (λ t h. accept-agree _ _ _ _ t h) (λ r. decline-agree _ _ r) (record { verdict = refl; objects = refl; blocks = refl; frames = nothing-written _ _ })

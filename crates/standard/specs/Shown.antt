@@ -1,0 +1,46 @@
+-- Document 01, "Floats": what is shown of a row.
+use Prim.Native.Nat.{ℕ}
+use mathlib.Core.Bool.{cond}
+use lib.IntN.{ℤ, pos}
+use lib.Ieee.{Float, binary32, ofInt}
+use Rattle.standard.specs.Floats.{nought, one, minusOne, ratio}
+use Rattle.standard.specs.Rows.{Row, is, isSilent}
+
+-- silence or a decibel figure
+pub data Gain : Type 0 where
+  silent : Gain
+  decibels : Float → Gain
+
+pub record Shown : Type 0 where
+  pub x : Float
+  pub y : Float
+  pub z : Float
+  pub width : Float
+  pub depth : Float
+  pub height : Float
+  pub priority : Float
+  pub gain : Gain
+
+unfoldable pub shownGain : ℤ → Gain
+shownGain g = cond (isSilent g) silent (decibels (ofInt binary32 g))
+
+-- an Lfe always shows (-1, 1, -1)
+unfoldable pub shown : Row → Shown
+shown r =
+    let p = r .picture in
+    let lfe = is 0 (r .kind) in
+    record {
+      x = cond lfe minusOne (ratio (p .position .x) 62);
+      y = cond lfe one (ratio (p .position .y) 62);
+      z = cond lfe minusOne (ratio (p .position .z) 15);
+      width = ratio (p .size .width) 31;
+      depth = ratio (p .size .depth) 31;
+      height = ratio (p .size .height) 31;
+      priority = ratio (r .priority) 32;
+      gain = shownGain (r .gain);
+    }
+
+-- on a refusal: every float 0, the gain silence
+unfoldable pub nothingShown : Shown
+nothingShown =
+    record { x = nought; y = nought; z = nought; width = nought; depth = nought; height = nought; priority = nought; gain = silent }

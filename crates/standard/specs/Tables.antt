@@ -1,0 +1,154 @@
+-- Document 01, "Tables": how rows, timings and states lie in the lent tables, and the form of what is lent.
+use Prim.Native.Nat.{ℕ, zero, suc, _+_, _*_, _-_}
+use mathlib.Core.Bool.{Bool, true, false, cond, _&&_, _||_}
+use mathlib.Core.List.{List, [], _∷_, _++_, map}
+use lib.Dec.{leb}
+use lib.IntN.{ℤ, pos, negsuc, natAbs}
+use lib.Signed.{leZ}
+use lib.ListN.{length, getD, take, drop, replicate}
+use Rattle.standard.specs.Numbers.{rowWidth, objectLimit, retainedHead}
+use Rattle.standard.specs.Tree.{Position, Zone, Size, Timing}
+use Rattle.standard.specs.Rows.{Picture, Row, State, noRow, is, isSilent}
+
+-- kind; active; gain; priority; x; y; z; width, depth, height; screen; lock; zone; elevation; mark
+unfoldable pub rowNumbers : Row → List ℤ
+rowNumbers r =
+    let p = r .picture in
+    r .kind ∷ r .active ∷ r .gain ∷ r .priority
+    ∷ p .position .x ∷ p .position .y ∷ p .position .z
+    ∷ p .size .width ∷ p .size .depth ∷ p .size .height
+    ∷ p .screen ∷ p .lock ∷ p .zone .zone ∷ p .zone .elevation ∷ r .mark ∷ []
+
+unfoldable pub rowOf : List ℤ → Row
+rowOf l =
+    let n : ℕ → ℤ = λ i. getD l i (pos 0) in
+    record {
+      kind = n 0;
+      active = n 1;
+      gain = n 2;
+      priority = n 3;
+      picture = record {
+        position = record { x = n 4; y = n 5; z = n 6 };
+        size = record { width = n 7; depth = n 8; height = n 9 };
+        screen = n 10;
+        lock = n 11;
+        zone = record { zone = n 12; elevation = n 13 };
+      };
+      mark = n 14;
+    }
+
+unfoldable pub rowsNumbers : List Row → List ℤ
+rowsNumbers [] = []
+rowsNumbers (r ∷ rs) = rowNumbers r ++ rowsNumbers rs
+
+-- n rows from the head of a list of numbers
+unfoldable pub rowsOf : ℕ → List ℤ → List Row
+rowsOf zero l = []
+rowsOf (suc n) l = rowOf (take rowWidth l) ∷ rowsOf n (drop rowWidth l)
+
+-- of rows by object and block: those of block b
+abbrev pub inBlock : ℕ → List (List Row) → List Row
+inBlock b rs = map (λ (r : List Row). getD r b noRow) rs
+
+-- n blocks from block b, and in each object by object
+unfoldable pub byBlock : ℕ → ℕ → List (List Row) → List Row
+byBlock zero b rs = []
+byBlock (suc n) b rs = inBlock b rs ++ byBlock n (suc b) rs
+
+-- start, ramp per block
+unfoldable pub timingNumbers : List Timing → List ℕ
+timingNumbers [] = []
+timingNumbers (t ∷ ts) = t .start ∷ t .ramp ∷ timingNumbers ts
+
+unfoldable pub timingsOf : ℕ → List ℕ → List Timing
+timingsOf zero l = []
+timingsOf (suc n) l = record { start = getD l 0 0; ramp = getD l 1 0 } ∷ timingsOf n (drop 2 l)
+
+-- Retained: object count, doubt, rows; those past the count are ignored, and written zero
+
+unfoldable pub countOf : List ℤ → ℕ
+countOf l = natAbs (getD l 0 (pos 0))
+
+unfoldable pub stateOf : List ℤ → State
+stateOf l = record { doubt = getD l 1 (pos 0); rows = rowsOf (countOf l) (drop retainedHead l) }
+
+unfoldable pub stateNumbers : State → List ℤ
+stateNumbers st =
+    let n = length (st .rows) in
+    pos n ∷ st .doubt ∷ rowsNumbers (st .rows) ++ replicate (rowWidth * (objectLimit - n)) (pos 0)
+
+-- Form
+
+abbrev pub every : List Bool → Bool
+every [] = true
+every (b ∷ bs) = b && every bs
+
+abbrev pub between : ℤ → ℤ → ℤ → Bool
+between lo hi v = leZ lo v && leZ v hi
+
+abbrev pub isFlag : ℤ → Bool
+isFlag v = between (pos 0) (pos 1) v
+
+unfoldable pub gainForm : ℤ → Bool
+gainForm v = isSilent v || between (negsuc 48) (pos 15) v
+
+unfoldable pub positionTests : Position → List Bool
+positionTests p =
+    between (pos 0) (pos 62) (p .x) ∷ between (pos 0) (pos 62) (p .y) ∷ between (negsuc 14) (pos 15) (p .z) ∷ []
+
+unfoldable pub positionForm : Position → Bool
+positionForm p = every (positionTests p)
+
+unfoldable pub zoneForm : Zone → Bool
+zoneForm z = every (between (pos 0) (pos 5) (z .zone) ∷ isFlag (z .elevation) ∷ [])
+
+unfoldable pub sizeForm : Size → Bool
+sizeForm s =
+    every (between (pos 0) (pos 31) (s .width) ∷ between (pos 0) (pos 31) (s .depth) ∷ between (pos 0) (pos 31) (s .height) ∷ [])
+
+unfoldable pub pictureTests : Picture → List Bool
+pictureTests p =
+    positionForm (p .position) ∷ zoneForm (p .zone) ∷ sizeForm (p .size) ∷ isFlag (p .screen) ∷ isFlag (p .lock) ∷ []
+
+unfoldable pub pictureForm : Picture → Bool
+pictureForm p = every (pictureTests p)
+
+unfoldable pub markForm : ℤ → Bool
+markForm m = isFlag m
+
+unfoldable pub isDefault : Picture → Bool
+isDefault p =
+    every (is 31 (p .position .x) ∷ is 31 (p .position .y) ∷ is 0 (p .position .z)
+    ∷ is 0 (p .size .width) ∷ is 0 (p .size .depth) ∷ is 0 (p .size .height)
+    ∷ is 0 (p .screen) ∷ is 0 (p .lock) ∷ is 0 (p .zone .zone) ∷ is 1 (p .zone .elevation) ∷ [])
+
+-- an inactive row has gain -128, priority 0
+unfoldable pub activeForm : Row → Bool
+activeForm r = is 1 (r .active) || (isSilent (r .gain) && is 0 (r .priority))
+
+-- a fixed kind has the default picture
+unfoldable pub fixedForm : Row → Bool
+fixedForm r = is 3 (r .kind) || isDefault (r .picture)
+
+-- of a row to be shown: a fixed kind has either mark
+unfoldable pub shownTests : Row → List Bool
+shownTests r =
+    between (pos 0) (pos 3) (r .kind) ∷ isFlag (r .active) ∷ gainForm (r .gain) ∷ between (pos 0) (pos 32) (r .priority)
+    ∷ pictureForm (r .picture) ∷ markForm (r .mark) ∷ activeForm r ∷ fixedForm r ∷ []
+
+unfoldable pub shownForm : Row → Bool
+shownForm r = every (shownTests r)
+
+abbrev pub isFull : ℤ → Bool
+isFull m = is 1 m
+
+-- of a retained row: a fixed kind has mark 1
+unfoldable pub rowForm : Row → Bool
+rowForm r = shownForm r && (is 3 (r .kind) || isFull (r .mark))
+
+unfoldable pub allForm : List Row → Bool
+allForm [] = true
+allForm (r ∷ rs) = rowForm r && allForm rs
+
+unfoldable pub inForm : List ℤ → Bool
+inForm l = between (pos 0) (pos objectLimit) (getD l 0 (pos 0)) && isFlag (getD l 1 (pos 0)) && allForm (stateOf l .rows)

@@ -1,0 +1,182 @@
+-- Document 01, "Reading order", from "Then object by object": what is said of one object in one block.
+use Prim.Native.Nat.{ℕ, _+_, min}
+use mathlib.Core.Bool.{Bool, true, false, cond}
+use mathlib.Core.List.{List, _∷_}
+use mathlib.Core.Option.{Option, none, some}
+use lib.Dec.{leb, eqb}
+use lib.IntN.{ℤ, pos, negsuc, negℤ, subℕ}
+use Rattle.bits.specs.Bits.{isSet}
+use Rattle.bits.specs.Parsed.{Parser, _>>=_, _>>_, mapP, pure, refuse, times, optional, here, require, Placed, placedAt, placed, invalid}
+use Rattle.bits.specs.Reads.{read, flag, readSigned}
+use Rattle.standard.specs.Tree.{Kind, isDynamic, Position, Zone, Size, GainWord, level, copied, PositionWord, absolute, moved, Basic, Groups, Render, default, kept, given, Update, inactive, active, Object}
+use Rattle.standard.specs.Assignment.{skipBytes}
+use Rattle.standard.specs.Contexts as context
+
+-- Basic information
+
+-- minus infinity
+unfoldable pub silence : ℤ
+silence = negsuc 127
+
+-- 15 - w up to 14, then 14 - w
+unfoldable pub decibels : ℕ → ℤ
+decibels w = cond (leb w 14) (subℕ 15 w) (subℕ 14 w)
+
+unfoldable pub gainWord : Parser GainWord
+gainWord = do
+  code ← read 2 context.object-gain-index
+  cond (eqb code 0) (pure (level (pos 0)))
+      (cond (eqb code 1) (pure (level silence))
+      (cond (eqb code 2) (mapP (λ w. level (decibels w)) (read 6 context.object-gain))
+      (pure copied)))
+
+-- in 32nds
+unfoldable pub priorityWord : Parser ℤ
+priorityWord = do
+  usual ← flag context.default-object-priority-flag
+  cond usual (pure (pos 32)) (mapP pos (read 5 context.object-priority))
+
+-- Status 0: silence and priority 0. 1: both. 2: kept. 3: two flags, gain first. The status was read at `at`.
+unfoldable pub basic : ℕ → ℕ → Parser Basic
+basic at status =
+    cond (eqb status 0) (pure (record { gain = some (placedAt at (level silence)); priority = some (placedAt at (pos 0)) }))
+    (cond (eqb status 2) (pure (record { gain = none; priority = none })) do
+      flags ← cond (eqb status 1) (pure 3) (read 2 context.mixed-basic-info-flags)
+      g ← optional (isSet 1 flags) (placed gainWord)
+      p ← optional (isSet 0 flags) (placed priorityWord)
+      pure (record { gain = g; priority = p }))
+
+-- Render information
+
+-- three steps from -4 to 3
+unfoldable pub differential : Parser PositionWord
+differential = do
+  x ← readSigned 3 context.differential-X
+  y ← readSigned 3 context.differential-Y
+  z ← readSigned 3 context.differential-Z
+  pure (moved (record { x = x; y = y; z = z }))
+
+-- 63 becoming 62; sign 1 is positive
+unfoldable pub absolutely : Parser PositionWord
+absolutely = do
+  x ← read 6 context.position-X
+  y ← read 6 context.position-Y
+  positive ← flag context.position-Z-sign
+  z ← read 4 context.position-Z
+  pure (absolute (record { x = pos (min x 62); y = pos (min y 62); z = cond positive (pos z) (negℤ (pos z)) }))
+
+-- all dropped
+unfoldable pub distance : Parser (Unit {0})
+distance = do
+  specified ← flag context.object-distance-specified-flag
+  cond specified
+      (do
+        infinite ← flag context.object-at-infinity-flag
+        cond infinite (pure tt) (mapP (λ v. tt) (read 4 context.distance-factor-index)))
+      (pure tt)
+
+-- past block 0 a differential flag
+unfoldable pub positionWord : Bool → Parser PositionWord
+positionWord first = do
+  d ← cond first (pure false) (flag context.differential-position-flag)
+  w ← cond d differential absolutely
+  distance
+  pure w
+
+-- a flag's number
+unfoldable pub bit : Bool → ℤ
+bit b = cond b (pos 1) (pos 0)
+
+unfoldable pub zoneWord : Parser Zone
+zoneWord = do
+  at ← here
+  n ← read 3 context.zone-constraints-index
+  require (leb n 5) (invalid context.zone-constraints-index at)
+  elevated ← flag context.elevation-enabled-flag
+  pure (record { zone = pos n; elevation = bit elevated })
+
+unfoldable pub sized : ℕ → ℕ → ℕ → Size
+sized w d h = record { width = pos w; depth = pos d; height = pos h }
+
+-- 0 none, 1 one for all, 2 three; in 31sts
+unfoldable pub sizeWord : Parser Size
+sizeWord = do
+  at ← here
+  code ← read 2 context.object-size-index
+  cond (eqb code 0) (pure (sized 0 0 0))
+      (cond (eqb code 1) (mapP (λ n. sized n n n) (read 5 context.object-size))
+      (cond (eqb code 2)
+      (do
+        w ← read 5 context.object-width
+        d ← read 5 context.object-depth
+        h ← read 5 context.object-height
+        pure (sized w d h))
+      (refuse (invalid context.object-size-index at))))
+
+-- 3 + 2 dropped bits if set
+unfoldable pub screenWord : Parser ℤ
+screenWord = do
+  on ← flag context.screen-reference-flag
+  cond on
+      (do
+        read 3 context.screen-factor
+        read 2 context.depth-factor-index
+        pure (bit on))
+      (pure (bit on))
+
+-- the groups that the flags choose, then lock always
+unfoldable pub groups : Bool → ℕ → Parser Groups
+groups first flags = do
+  p ← optional (isSet 3 flags) (placed (positionWord first))
+  z ← optional (isSet 2 flags) (placed zoneWord)
+  n ← optional (isSet 1 flags) (placed sizeWord)
+  s ← optional (isSet 0 flags) (placed screenWord)
+  l ← placed (mapP bit (flag context.object-snap-flag))
+  pure (record { position = p; zone = z; size = n; screen = s; lock = l })
+
+-- Status 0: default picture. 2: kept. 1, or 3 with four flags: groups. The status was read at `at`.
+unfoldable pub render : Bool → ℕ → ℕ → Parser Render
+render first at status =
+    cond (eqb status 0) (pure (default at))
+    (cond (eqb status 2) (pure kept) do
+      flags ← cond (eqb status 1) (pure 15) (read 4 context.mixed-render-info-flags)
+      mapP given (groups first flags))
+
+-- One object in one block
+
+-- in block 0 the status is 1
+unfoldable pub status : Bool → ℕ → Parser ℕ
+status first c = cond first (pure 1) (read 2 c)
+
+unfoldable pub activeUpdate : Kind → Bool → Parser Update
+activeUpdate k first = do
+  at ← here
+  s ← status first context.basic-info-status
+  b ← basic at s
+  r ← cond (isDynamic k)
+      (do
+        at ← here
+        s ← status first context.render-info-status
+        render first at s)
+      (pure kept)
+  pure (active b r)
+
+unfoldable pub tableData : Parser (Unit {0})
+tableData = do
+  there ← flag context.additional-table-data-flag
+  cond there (skipBytes context.additional-table-data-size context.additional-table-data) (pure tt)
+
+unfoldable pub update : Kind → Bool → Parser Update
+update k first = do
+  at ← here
+  off ← flag context.object-not-active-flag
+  u ← cond off (pure (inactive at)) (activeUpdate k first)
+  tableData
+  pure u
+
+-- an object in block 0 and m more
+unfoldable pub object : ℕ → Kind → Parser Object
+object m k = do
+  u ← update k true
+  later ← times m (update k false)
+  pure (record { kind = k; updates = u ∷ later })

@@ -1,0 +1,1 @@
+// The paper: definitions in specs/ and theorems about them in proofs/. There is no code here.

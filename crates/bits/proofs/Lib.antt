@@ -1,3 +1,10 @@
 pub mod Always
 pub mod Fields
+pub mod Groups
+pub mod Laws
+pub mod Makes
+pub mod Padding
+pub mod ParsedLaws
 pub mod ReadCases
+pub mod Signs
+pub mod Tells

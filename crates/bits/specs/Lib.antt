@@ -1,3 +1,4 @@
 pub mod Bits
 pub mod Parsed
 pub mod Reads
+pub mod Say

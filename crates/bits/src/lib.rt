@@ -1,1 +1,245 @@
-// The reading layer.
+// The reading layer: each read of a payload's bits, the highest of each byte first, answers a value or a refusal.
+ghost use mathlib.Core.Path.{_≡_};
+ghost use mathlib.Core.List.{List};
+ghost use Prim.Native.Nat.{ℕ, _+_, _*_, _≤_, _<_, _^_};
+ghost use lib.ListN.{getD};
+ghost use Rattle.bits.specs.Bits.{bitAt, field};
+ghost use Rattle.bits.specs.Parsed.{truncated, invalid, limit, unsupported};
+ghost use Rattle.bits.specs.Reads as reads;
+ghost use Rattle.bits.specs.Say.{refusal, said, saidFlag, saidPassed, saidSigned};
+
+const MAX_VARIABLE_BITS_GROUPS: usize = 4;
+
+// Sizes in bytes and places in bits are kept apart: `bits` is the one way across.
+pub struct ByteCount(pub usize);
+
+pub struct BitPlace(pub usize);
+
+pub struct Refusal {
+    pub number: u8,
+    pub context: u8,
+    pub place: BitPlace,
+}
+
+pub enum Number {
+    Value(u32, BitPlace),
+    Refused(Refusal),
+}
+
+pub enum Flag {
+    Is(bool, BitPlace),
+    Refused(Refusal),
+}
+
+pub enum Passed {
+    To(BitPlace),
+    Refused(Refusal),
+}
+
+pub enum Signed {
+    Value(i16, BitPlace),
+    Refused(Refusal),
+}
+
+impl ByteCount {
+    // From 2 to the 61st on, eight times the count would not fit.
+    pub fn bits(self) -> BitPlace
+        requires { ⌜ self .0 < 2 ^ 61 ⌝ }
+        ensures { λ r. ⌜ r .0 ≡ self .0 * 8 ⌝ }
+    {
+        BitPlace(self.0 * 8)
+    }
+}
+
+impl Refusal {
+    // Told the width wanted and what remained, so that a report of the missing bits changes nothing else.
+    pub fn truncated(context: u8, place: BitPlace, wanted: usize, remained: usize) -> Refusal
+        ensures { λ r. ⌜ refusal r ≡ truncated context (place .0) wanted remained ⌝ }
+    {
+        Refusal {
+            number: 1,
+            context,
+            place,
+        }
+    }
+
+    pub fn invalid(context: u8, place: BitPlace) -> Refusal
+        ensures { λ r. ⌜ refusal r ≡ invalid context (place .0) ⌝ }
+    {
+        Refusal {
+            number: 2,
+            context,
+            place,
+        }
+    }
+
+    pub fn limit(context: u8, place: BitPlace) -> Refusal
+        ensures { λ r. ⌜ refusal r ≡ limit context (place .0) ⌝ }
+    {
+        Refusal {
+            number: 3,
+            context,
+            place,
+        }
+    }
+
+    pub fn unsupported(context: u8, place: BitPlace) -> Refusal
+        ensures { λ r. ⌜ refusal r ≡ unsupported context (place .0) ⌝ }
+    {
+        Refusal {
+            number: 4,
+            context,
+            place,
+        }
+    }
+}
+
+pub fn read_signed(
+    payload: &[u8],
+    limit: BitPlace,
+    at: BitPlace,
+    width: usize,
+    context: u8,
+) -> Signed
+    requires { ⌜ (0 < width) × (width < 15) ⌝ }
+    ensures { λ r. ⌜ saidSigned r ≡ reads.readSigned width context (now (payload .entry)) (limit .0) (at .0) ⌝ }
+{
+    match read(payload, limit, at, width, context) {
+        Number::Value(value, next) => Signed::Value(with_sign(value, width), next),
+        Number::Refused(refusal) => Signed::Refused(refusal),
+    }
+}
+
+// The upper half of the range stands for the numbers below zero.
+fn with_sign(value: u32, width: usize) -> i16
+    requires { ⌜ ((0 < width) × (width < 15)) × (value < 2 ^ width) ⌝ }
+    ensures { λ r. ⌜ r ≡ reads.signed width value ⌝ }
+{
+    let number = value as i16;
+    if value < two_to(width - 1) {
+        number
+    } else {
+        number - two_to(width) as i16
+    }
+}
+
+fn two_to(exponent: usize) -> u32
+    requires { ⌜ exponent < 32 ⌝ }
+    ensures { λ r. ⌜ r ≡ 2 ^ exponent ⌝ }
+{
+    1 << exponent
+}
+
+pub fn read_variable_bits_max(
+    payload: &[u8],
+    limit: BitPlace,
+    at: BitPlace,
+    width: usize,
+    context: u8,
+) -> Number
+    requires { ⌜ width ≤ 4 ⌝ }
+    ensures { λ r. ⌜ said r ≡ reads.variableBits width 3 context (now (payload .entry)) (limit .0) (at .0) ⌝ }
+{
+    let head = read(payload, limit, at, width, context);
+    let Number::Value(mut value, mut place) = head else {
+        return head;
+    };
+    let span = two_to(width);
+    // A fifth group, and a later group that is cut short, are refused where the number begins.
+    let limited = Refusal::limit(context, at);
+    let mut groups = 1;
+    loop {
+        match read_flag(payload, limit, place, context) {
+            Flag::Refused(refusal) => return Number::Refused(refusal),
+            Flag::Is(more, next) => {
+                if !more {
+                    return Number::Value(value, next);
+                }
+                if groups >= MAX_VARIABLE_BITS_GROUPS {
+                    return Number::Refused(limited);
+                }
+                let Number::Value(group, end) = read(payload, limit, next, width, context) else {
+                    return Number::Refused(limited);
+                };
+                value = value * span + span + group;
+                place = end;
+                groups += 1;
+            }
+        }
+    }
+}
+
+pub fn read(payload: &[u8], limit: BitPlace, at: BitPlace, width: usize, context: u8) -> Number
+    requires { ⌜ width ≤ 17 ⌝ }
+    ensures { λ r. ⌜ said r ≡ reads.read width context (now (payload .entry)) (limit .0) (at .0) ⌝ }
+{
+    // A field ends where a run of its width does, so a cut is found in one place.
+    match skip(limit, at, width, context) {
+        Passed::To(end) => Number::Value(bits_from(payload, at.0, width), end),
+        Passed::Refused(refusal) => Number::Refused(refusal),
+    }
+}
+
+fn bits_from(payload: &[u8], from: usize, width: usize) -> u32
+    requires { ⌜ (width ≤ 17) × (from + width < 2 ^ 64) ⌝ }
+    ensures { λ r. ⌜ r ≡ field (now (payload .entry)) from width ⌝ }
+{
+    let mut value = 0;
+    for bit in 0..width {
+        value = value * 2 + bit_at(payload, from + bit);
+    }
+    value
+}
+
+fn bit_at(payload: &[u8], place: usize) -> u32
+    ensures { λ r. ⌜ r ≡ bitAt (now (payload .entry)) place ⌝ }
+{
+    ((byte_at(payload, place / 8) >> (7 - place % 8)) % 2) as u32
+}
+
+// A limit past the payload reads zero bits there.
+fn byte_at(payload: &[u8], index: usize) -> u8
+    ensures { λ r. ⌜ r ≡ getD (now (payload .entry)) index 0 ⌝ }
+{
+    if index < payload.len() {
+        payload[index]
+    } else {
+        0
+    }
+}
+
+pub fn read_flag(payload: &[u8], limit: BitPlace, at: BitPlace, context: u8) -> Flag
+    ensures { λ r. ⌜ saidFlag r ≡ reads.flag context (now (payload .entry)) (limit .0) (at .0) ⌝ }
+{
+    match read(payload, limit, at, 1, context) {
+        Number::Value(value, next) => Flag::Is(value == 1, next),
+        Number::Refused(refusal) => Flag::Refused(refusal),
+    }
+}
+
+pub fn skip(limit: BitPlace, at: BitPlace, count: usize, context: u8) -> Passed
+    ensures { λ r. ⌜ ((s : List ℕ) → saidPassed r ≡ reads.skip count context s (limit .0) (at .0)) ⌝ }
+{
+    if limit.0 < at.0 {
+        return Passed::Refused(Refusal::truncated(context, at, count, 0));
+    }
+    // The sum of place and count may not fit, so the room is compared.
+    let remained = limit.0 - at.0;
+    if remained < count {
+        return Passed::Refused(Refusal::truncated(context, at, count, remained));
+    }
+    Passed::To(BitPlace(at.0 + count))
+}
+
+pub fn consume_zero_padding(payload: &[u8], limit: BitPlace, at: BitPlace, context: u8) -> Passed
+    ensures { λ r. ⌜ saidPassed r ≡ reads.padding context (now (payload .entry)) (limit .0) (at .0) ⌝ }
+{
+    let mut place = at.0;
+    while place < limit.0 {
+        if bit_at(payload, place) != 0 {
+            return Passed::Refused(Refusal::invalid(context, BitPlace(place)));
+        }
+        place += 1;
+    }
+    Passed::To(BitPlace(place))
+}

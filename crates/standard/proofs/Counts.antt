@@ -56,7 +56,7 @@ module _ {A : Type 0} where
   times-length zero m = given _ refl
   times-length (suc n) m = after _ _ λ a. bind _ (times-length n m) λ l e. given _ (ap suc e)
 
-object-length : (m : ℕ) (k : Kind) → Always (λ o. length (o .updates) ≡ suc m) (object m k)
+pub object-length : (m : ℕ) (k : Kind) → Always (λ o. length (o .updates) ≡ suc m) (object m k)
 unfolding object
 object-length m k = after _ _ λ u. bind _ (times-length m (update k false)) λ us e. given _ (ap suc e)
 
@@ -72,7 +72,7 @@ pub record Sized (t : Tree) : Type 0 where
 pub sized : (s : List ℕ) → Ok Sized (taken s)
 unfolding objectElement blockLimit
 sized =
-    in-taken Some Sized kinds-counted λ ks h.
+    in-taken Some Sized (λ ks h.
     after _ _ λ offset. bind _ (read-lt 3 _) λ m hm. bind _ (times-length (m + 1) _) λ ts et. next _
     (bind _ (together (as-many (object m) ks) (at-each ks (object-length m))) λ os e.
     let n = h .0 in
@@ -84,4 +84,5 @@ sized =
       blocks = omega arith;
       first = omega arith;
       full = all-to os (λ (o : Object) (e′ : length (o .updates) ≡ suc m). omega arith) (e .1);
-    }))
+    })))
+    kinds-counted

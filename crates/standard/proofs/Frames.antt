@@ -36,7 +36,7 @@ unfolding objectRows
 object-rows-length k [] gs r = refl
 object-rows-length k (u ∷ us) gs r = ap suc (object-rows-length k us (drop 1 gs) (updated k (getD gs 0 (pos 0)) u r))
 
-all-rows-length : (os : List Object) (rs : List Row) (gs : List ℤ) → length (allRows os rs gs) ≡ length os
+pub all-rows-length : (os : List Object) (rs : List Row) (gs : List ℤ) → length (allRows os rs gs) ≡ length os
 unfolding allRows
 all-rows-length [] rs gs = refl
 all-rows-length (o ∷ os) rs gs = ap suc (all-rows-length os (drop 1 rs) (map gainOf (objectRows (o .kind) (getD rs 0 noRow) (o .updates) gs)))

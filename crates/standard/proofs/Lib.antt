@@ -26,3 +26,4 @@ pub mod RampChoice
 pub mod RampTable
 pub mod ShownValues
 pub mod JournalCases
+pub mod LastBlock

@@ -14,8 +14,8 @@ use Rattle.standard.specs.Updates.{object}
 use Rattle.standard.specs.Syntax.{objectElement, once, content, element, elements, present, body, payload, syntax}
 use Rattle.standard.specs.Meaning.{taken}
 
--- K holds of the kinds of every payload, and P of what an object element says over such kinds
-module _ (K : List Kind → Type 0) (P : Tree → Type 0) (hk : Always K (objectCount >>= assignment)) (h : (ks : List Kind) → K ks → Always P (objectElement ks)) where
+-- P holds of what an object element says over kinds that have K
+module _ (K : List Kind → Type 0) (P : Tree → Type 0) (h : (ks : List Kind) → K ks → Always P (objectElement ks)) where
   in-once : (at : ℕ) (found : Option Tree) (ks : List Kind) → K ks → Always (IfSome P) (once at found (objectElement ks))
   unfolding once
   in-once at none ks hk′ = mapped-such some (h ks hk′) (λ t g. g)
@@ -32,7 +32,7 @@ module _ (K : List Kind → Type 0) (P : Tree → Type 0) (hk : Always K (object
       after _ _ λ at. after _ _ λ id. after _ _ λ bytes. after _ _ λ start. after _ _ λ end.
       next _ (bind _ (inside _ (next _ (next _ (in-content ks at id found hk′ g)))) λ t g′. next _ (given _ g′))
 
-  in-elements : (n : ℕ) (alternated : Bool) (ks : List Kind) (found : Option Tree) → K ks → IfSome P found → Always (IfSome P) (elements n alternated ks found)
+  pub in-elements : (n : ℕ) (alternated : Bool) (ks : List Kind) (found : Option Tree) → K ks → IfSome P found → Always (IfSome P) (elements n alternated ks found)
   unfolding elements
   in-elements zero alternated ks found hk′ g = given _ g
   in-elements (suc n) alternated ks found hk′ g = bind _ (in-element alternated ks found hk′ g) λ t g′. in-elements n alternated ks t hk′ g′
@@ -46,17 +46,17 @@ module _ (K : List Kind → Type 0) (P : Tree → Type 0) (hk : Always K (object
   unfolding body
   in-body ks hk′ = after _ _ λ alternated. after _ _ λ n. bind _ (in-elements n alternated ks none hk′ tt) λ t g. next _ (in-present t g)
 
-  in-payload : Always P payload
+  -- where the kinds of every payload have K: of what is read, and so of what is taken
+  in-payload : Always K (objectCount >>= assignment) → Always P payload
   unfolding payload
-  in-payload = next _ (bind _ hk in-body)
+  in-payload hk = next _ (bind _ hk in-body)
 
-  -- of what is read, and so of what is taken
-  pub in-taken : (s : List ℕ) → Ok P (taken s)
+  pub in-taken : Always K (objectCount >>= assignment) → (s : List ℕ) → Ok P (taken s)
   unfolding taken syntax
-  in-taken s = go (leb (length s) payloadLimit)
+  in-taken hk s = go (leb (length s) payloadLimit)
     where
       go : (b : Bool) → Ok P (cond b (syntax s) (refused (alone size)))
-      go true = in-payload .ok s _ 0
+      go true = in-payload hk .ok s _ 0
       go false = tt
 
 -- what every object has
@@ -66,5 +66,6 @@ InTree P t = All P (t .objects)
 pub in-objects : (P : Object → Type 0) → ((m : ℕ) (k : Kind) → Always P (object m k)) → (s : List ℕ) → Ok (InTree P) (taken s)
 unfolding objectElement
 in-objects P h =
-    in-taken (λ ks. Unit {0}) (InTree P) (anything _)
+    in-taken (λ ks. Unit {0}) (InTree P)
     (λ ks hk. after _ _ λ offset. after _ _ λ m. after _ _ λ ts. next _ (bind _ (at-each ks (h m)) λ os g. given _ g))
+    (anything _)

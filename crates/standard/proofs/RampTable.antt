@@ -65,9 +65,10 @@ timing-bounded offset h = bind _ (read-lt 6 _) λ factor k. bind _ ramp-le λ r 
 timings-such : (P : Timing → Type 0) → ((t : Timing) → Bounded t → P t) → (s : List ℕ) → Ok (λ t. All P (t .timings)) (taken s)
 unfolding objectElement
 timings-such P f =
-    in-taken (λ ks. Unit {0}) (λ t. All P (t .timings)) (anything _)
-    λ ks h. bind _ offset-le λ offset o. after _ _ λ m.
-    bind _ (repeated (m + 1) (weaken (timing-bounded offset o) f)) λ ts k. next _ (after _ _ λ os. given _ k)
+    in-taken (λ ks. Unit {0}) (λ t. All P (t .timings))
+    (λ ks h. bind _ offset-le λ offset o. after _ _ λ m.
+    bind _ (repeated (m + 1) (weaken (timing-bounded offset o) f)) λ ts k. next _ (after _ _ λ os. given _ k))
+    (anything _)
 
 -- so is every timing that a payload gives
 pub payload-timings : (s : List ℕ) → Ok (λ t. All Bounded (t .timings)) (taken s)

@@ -1,0 +1,105 @@
+//! One payload after another through the Rust decoder, answered in document 01's numbers.
+
+use crate::oamd::{OamdDecoder, OamdFrame, OamdParseError};
+pub use crate::row::Row;
+use crate::row::{kind_number, rows};
+use crate::{context, notes, oamd_noting, place};
+
+pub const TRUNCATED: u8 = 1;
+pub const INVALID: u8 = 2;
+pub const LIMIT: u8 = 3;
+pub const UNSUPPORTED: u8 = 4;
+pub const SIZE: u8 = 7;
+
+/// Document 01's longest payload, in bytes. The Rust has no such limit.
+pub const LONGEST_PAYLOAD: usize = 16_384;
+
+#[derive(Clone, Copy, Debug, PartialEq, Eq)]
+pub struct Refusal {
+    pub number: u8,
+    pub context: u8,
+    pub place: usize,
+}
+
+#[derive(Clone, Debug, PartialEq, Eq)]
+pub struct Frame {
+    pub kinds: Vec<i16>,
+    /// Start and ramp of each block.
+    pub timings: Vec<[u16; 2]>,
+    pub start: Vec<Row>,
+    /// The row of block b, object o stands at b x objects + o.
+    pub blocks: Vec<Row>,
+}
+
+#[derive(Default)]
+pub struct Oracle {
+    decoder: OamdDecoder,
+}
+
+impl Oracle {
+    pub fn decode(&mut self, payload: &[u8]) -> Result<Frame, Refusal> {
+        if payload.len() > LONGEST_PAYLOAD {
+            return Err(Refusal {
+                number: SIZE,
+                context: 0,
+                place: 0,
+            });
+        }
+        self.decoder
+            .decode(payload)
+            .map(|frame| numbers(&frame))
+            .map_err(|error| refusal(&error, payload))
+    }
+
+    pub fn reset(&mut self) {
+        self.decoder.reset();
+    }
+
+    pub fn retained(&self) -> Vec<Row> {
+        rows(&self.decoder.kinds, &self.decoder.objects)
+    }
+}
+
+fn numbers(frame: &OamdFrame) -> Frame {
+    Frame {
+        kinds: frame.kinds.iter().map(|&kind| kind_number(kind)).collect(),
+        timings: frame
+            .updates
+            .iter()
+            .map(|update| [update.timing.start_sample, update.timing.ramp_duration])
+            .collect(),
+        start: rows(&frame.kinds, &frame.starting_objects),
+        blocks: frame
+            .updates
+            .iter()
+            .flat_map(|update| rows(&frame.kinds, &update.objects))
+            .collect(),
+    }
+}
+
+fn refusal(error: &OamdParseError, payload: &[u8]) -> Refusal {
+    let (number, text) = match *error {
+        OamdParseError::Truncated(text) => (TRUNCATED, text),
+        OamdParseError::Invalid(text) => (INVALID, text),
+        OamdParseError::Limit(text) => (LIMIT, text),
+        OamdParseError::Unsupported(text) => (UNSUPPORTED, text),
+    };
+    let context = context::number(text);
+    let notes = notes_of(payload, error);
+    let place = place::place(number, context, &notes, payload.len() * 8);
+    Refusal {
+        number,
+        context,
+        place,
+    }
+}
+
+/// What a refused payload made the noting decoder read.
+/// What is retained changes no refusal, so a fresh decoder serves.
+fn notes_of(payload: &[u8], error: &OamdParseError) -> Vec<notes::Note> {
+    notes::take();
+    let noted = oamd_noting::OamdDecoder::default().decode(payload);
+    let same = noted.is_err_and(|noted| noted.to_string() == error.to_string());
+    assert!(same, "both copies of the decoder refuse alike");
+    notes::take()
+}

@@ -1,0 +1,28 @@
+//! The oracle as a library: the Rust decoder, answers in document 01's numbers, payloads to try.
+
+// Three files are cut from the Rust source by oracle/build.
+#[allow(dead_code)]
+#[path = "../target/oracle/oamd.rs"]
+pub mod oamd;
+#[allow(dead_code)]
+#[path = "../target/oracle/oamd_noting.rs"]
+mod oamd_noting;
+#[path = "../target/oracle/renderer_rules.rs"]
+mod renderer_rules;
+
+pub mod answer;
+pub mod context;
+pub mod journal;
+mod notes;
+mod place;
+mod row;
+pub mod timing;
+
+pub mod aim;
+mod assignment;
+mod bits;
+pub mod generator;
+mod object_element;
+mod payload;
+pub mod random;
+mod spoil;

@@ -1,0 +1,113 @@
+//! The oracle's program. Its modes:
+//!
+//! `journal`: answers the journal on standard input, record by record, in lines:
+//!     no NUMBER CONTEXT PLACE   a payload refused; the decoder keeps what it had
+//!     ok OBJECTS BLOCKS         a payload accepted, and then
+//!     kinds KIND ..             0 Lfe, 1 Bed, 2 Isf, 3 Dynamic
+//!     timings START RAMP ..     of each block
+//!     start NUMBER ..           a line for each start row
+//!     block NUMBER ..           a line for each row of block 0, then of block 1, and on
+//!     retained NUMBER ..        a line for each row that is kept
+//!     gap                       nothing is done: the Rust knows no gap
+//!     reset
+//! and last `end RECORDS`, `torn OFFSET` or `mark OFFSET`. A row is 14 numbers: document 01's row
+//! without its mark. A payload over 16,384 bytes is `no 7 0 0` and not decoded.
+//!
+//! `timing`: answers each line BLOCKS START RAMP .. SAMPLE of standard input by
+//!     NUMBER FROM TO BITS       the timing test's number (0, 8, 9, 10), the rows chosen (0 the
+//!                               start row, b + 1 block b) and the f32 fraction, by its bits
+//!
+//! `generate SEED COUNT [gaps] [short]`: writes a journal with COUNT payloads in sequences, a reset
+//!     before each; gaps: with gap notices; short: at most 40 objects, and no very long payload.
+//!
+//! `count SEED COUNT`: counts the answers to such a journal by number and context. It fails if an
+//!     aim misses, if a reachable pair is not seen, or if another one is.
+
+use oracle::generator::{Generator, Options};
+use oracle::{journal, timing};
+use std::io::{self, BufWriter, Read, Write};
+use std::process::ExitCode;
+
+mod count;
+
+const USAGE: &str =
+    "usage: oracle journal | timing | generate SEED COUNT [gaps] [short] | count SEED COUNT";
+
+fn main() -> ExitCode {
+    let arguments: Vec<String> = std::env::args().skip(1).collect();
+    let words: Vec<&str> = arguments.iter().map(String::as_str).collect();
+    let mut out = BufWriter::new(io::stdout().lock());
+    let done = match words[..] {
+        ["journal"] => answer_journal(&mut out),
+        ["timing"] => answer_timings(&mut out),
+        ["generate", seed, count, ref options @ ..] => generate(seed, count, options, &mut out),
+        ["count", seed, count] => count::count(number(seed), number(count) as usize, &mut out),
+        _ => Err(io::Error::other(USAGE)),
+    };
+    match done.and_then(|()| out.flush()) {
+        Ok(()) => ExitCode::SUCCESS,
+        Err(error) => {
+            eprintln!("oracle: {error}");
+            ExitCode::from(2)
+        }
+    }
+}
+
+fn answer_journal(out: &mut impl Write) -> io::Result<()> {
+    let mut bytes = Vec::new();
+    io::stdin().lock().read_to_end(&mut bytes)?;
+    journal::print_answers(&bytes, out)
+}
+
+fn answer_timings(out: &mut impl Write) -> io::Result<()> {
+    for line in io::stdin().lines() {
+        let line = line?;
+        let numbers: Vec<usize> = line
+            .split_whitespace()
+            .map(|word| number(word) as usize)
+            .collect();
+        let (blocks, rest) = numbers
+            .split_first()
+            .expect("a line begins with its count of blocks");
+        let (sample, pairs) = rest.split_last().expect("a line ends with a sample");
+        assert_eq!(pairs.len(), blocks * 2, "a start and a ramp for each block");
+        let small = |value: usize| u16::try_from(value).expect("a timing has 16 bits");
+        let timings: Vec<[u16; 2]> = pairs
+            .chunks(2)
+            .map(|pair| [small(pair[0]), small(pair[1])])
+            .collect();
+        let choice = timing::ramp_choice(&timings, *sample);
+        let verdict = timing::timing_number(&timings);
+        writeln!(
+            out,
+            "{verdict} {} {} {}",
+            choice.from, choice.to, choice.fraction
+        )?;
+    }
+    Ok(())
+}
+
+fn generate(seed: &str, count: &str, options: &[&str], out: &mut impl Write) -> io::Result<()> {
+    if options
+        .iter()
+        .any(|option| !["gaps", "short"].contains(option))
+    {
+        return Err(io::Error::other(USAGE));
+    }
+    let options = Options {
+        gaps: options.contains(&"gaps"),
+        short: options.contains(&"short"),
+    };
+    let mut generator = Generator::new(number(seed), options);
+    for _ in 0..number(count) {
+        for record in generator.next_records() {
+            record.write(out)?;
+        }
+    }
+    Ok(())
+}
+
+fn number(word: &str) -> u64 {
+    word.parse()
+        .unwrap_or_else(|_| panic!("not a whole number: {word}"))
+}

@@ -27,3 +27,10 @@ pub mod RampTable
 pub mod ShownValues
 pub mod JournalCases
 pub mod LastBlock
+pub mod Writer
+pub mod FurtherCases
+pub mod MarkCases
+pub mod ReadingCases
+pub mod ElementCases
+pub mod TableCases
+pub mod WrongDecoders

@@ -1,0 +1,146 @@
+-- Cases of the elements: their count, sizes and order, the trim element, and the three paddings.
+use Prim.Native.Nat.{ℕ, _*_}
+use mathlib.Core.List.{List, [], _∷_, _++_, flatten}
+use lib.Dec.{T}
+use lib.IntN.{pos}
+use lib.ListN.{replicate}
+use Rattle.standard.specs.Cases.{Case, allHold}
+use Rattle.standard.specs.Contexts as context
+use Rattle.standard.proofs.Writer.{Bits, _⊳_, bytes, filled, sizeGroups, element, elements, dynamicOnly, blocks, off, offRow, defaultOf, shows, fails, written}
+
+-- One Dynamic object. Without a longer element count the first element's id stands at bit 14, its size at 18, its content at 23
+
+unfoldable pub ofElements : List Bits → List ℕ
+ofElements es = bytes (dynamicOnly 1 0 ++ elements es)
+
+-- one element, as it stands
+unfoldable pub bare : Bits → List ℕ
+bare b = bytes (dynamicOnly 1 0 ++ 1 ⊳ 0 ++ 4 ⊳ 1 ++ b)
+
+-- 15 elements and n more
+unfoldable pub fifteenAnd : ℕ → Bits → List ℕ
+fifteenAnd n b = bytes (dynamicOnly 1 0 ++ 1 ⊳ 0 ++ 4 ⊳ 15 ++ 5 ⊳ n ++ b)
+
+-- 33 bits: the object at rest in one block
+unfoldable pub rest : Bits
+rest = element 1 (blocks 1 ++ off)
+
+-- 17 bits: an unknown element of one byte
+unfoldable pub unknown : Bits
+unknown = element 5 (7 ⊳ 0x7f)
+
+-- a group and a more flag
+
+unfoldable pub more : ℕ → Bits
+more v = 4 ⊳ v ++ 1 ⊳ 1
+
+unfoldable pub last : ℕ → Bits
+last v = 4 ⊳ v ++ 1 ⊳ 0
+
+-- accepted: the object is at rest
+unfoldable pub rests : List ℕ → Case
+rests s = shows [] s 1 1 0 (defaultOf 3 1 ∷ []) (offRow 31 31 (pos 0) 1 ∷ [])
+
+-- warp, two bits, mode
+unfoldable pub trim : ℕ → ℕ → ℕ → Bits → Bits
+trim warp zeros mode b = element 2 (2 ⊳ warp ++ 2 ⊳ zeros ++ 2 ⊳ mode ++ b)
+
+-- Sizes
+
+unfoldable pub sizeCases : List Case
+sizeCases =
+    -- "a cut first group or flag is Truncated": the group at bit 23,
+    fails (fifteenAnd 0 (4 ⊳ 1)) 1 context.element-size 23
+    -- the flag after the first group, at bit 56,
+    ∷ fails (bytes (dynamicOnly 1 0 ++ 1 ⊳ 0 ++ 4 ⊳ 3 ++ unknown ++ unknown ++ 4 ⊳ 1 ++ 4 ⊳ 0)) 1 context.element-size 56
+    -- and after a later one, at bit 32
+    ∷ fails (bare (4 ⊳ 1 ++ more 0 ++ more 0 ++ 4 ⊳ 0)) 1 context.element-size 32
+    -- "A later group cut short is Limit too", at the size: the second group,
+    ∷ fails (bare (4 ⊳ 1 ++ more 0)) 3 context.element-size 18
+    -- and a third
+    ∷ fails (bytes (dynamicOnly 1 0 ++ 1 ⊳ 0 ++ 4 ⊳ 2 ++ unknown ++ 4 ⊳ 1 ++ more 0 ++ more 0)) 3 context.element-size 35
+    -- "A fifth group is Limit"
+    ∷ fails (bare (4 ⊳ 1 ++ more 0 ++ more 0 ++ more 0 ++ more 0 ++ last 0)) 3 context.element-size 18
+    -- "at most 4 groups, 69,904 bytes": "Element longer than the payload: the bit after its size", after one, two and four groups
+    ∷ fails (bare (4 ⊳ 1 ++ last 1 ++ 8 ⊳ 0)) 1 context.element 23
+    ∷ fails (bare (4 ⊳ 1 ++ sizeGroups 17)) 1 context.element 28
+    ∷ fails (bare (4 ⊳ 1 ++ more 15 ++ more 15 ++ more 15 ++ last 15)) 1 context.element 38
+    -- "each later group v × 16 + 16 + next": 17 bytes in two groups, 274 in three; the object element behind is found
+    ∷ rests (ofElements (element 5 (replicate 135 1) ∷ rest ∷ []))
+    ∷ rests (ofElements ((4 ⊳ 5 ++ more 0 ++ more 0 ++ last 1 ++ replicate (274 * 8) 1) ∷ rest ∷ []))
+    ∷ []
+
+-- Count, ids, alternate data
+
+unfoldable pub orderCases : List Case
+orderCases =
+    -- "element count 4 bits, 15 adds 5 more; over 31 is Limit"
+    fails (fifteenAnd 17 []) 3 context.element-count 10
+    ∷ fails (bare []) 1 context.element-id 14
+    ∷ fails (bytes (dynamicOnly 1 0 ++ 1 ⊳ 0 ++ 4 ⊳ 15)) 1 context.extended-element-count 14
+    -- 31 elements pass, "others skipped": one object element after 30 unknown ones; 31 zero elements, and "Missing: payload end"
+    ∷ rests (fifteenAnd 16 (flatten (replicate 30 unknown) ++ rest))
+    ∷ fails (fifteenAnd 16 (replicate (31 * 17) 0)) 2 context.missing-object-element 552
+    -- "Id 1 objects, 2 trim, others skipped", whatever they hold, and whatever the discard flag
+    ∷ rests (ofElements (element 0 (23 ⊳ 0x7fffff) ∷ rest ∷ element 15 (7 ⊳ 0x7f) ∷ []))
+    ∷ rests (bare (4 ⊳ 1 ++ last 2 ++ filled (1 ⊳ 1 ++ blocks 1 ++ off)))
+    -- a second object element: "Duplicate: that element's id", at bit 47, whatever it holds
+    ∷ fails (ofElements (rest ∷ rest ∷ [])) 2 context.duplicate-object-element 47
+    ∷ fails (ofElements (rest ∷ element 1 (7 ⊳ 0x7f) ∷ [])) 2 context.duplicate-object-element 47
+    -- but that it is longer than the payload comes before
+    ∷ fails (bytes (dynamicOnly 1 0 ++ 1 ⊳ 0 ++ 4 ⊳ 2 ++ rest ++ 4 ⊳ 1 ++ last 15)) 1 context.element 56
+    -- missing: only a trim and an unknown element
+    ∷ fails (ofElements (trim 0 0 0 (1 ⊳ 0) ∷ unknown ∷ [])) 2 context.missing-object-element 48
+    -- "Alternate id (only 0 supported) .. inside the element", of unknown elements too
+    ∷ rests (bytes (dynamicOnly 1 0 ++ 1 ⊳ 1 ++ 4 ⊳ 1 ++ 4 ⊳ 1 ++ last 2 ++ filled (4 ⊳ 0 ++ 1 ⊳ 0 ++ blocks 1 ++ off)))
+    ∷ fails (bytes (dynamicOnly 1 0 ++ 1 ⊳ 1 ++ 4 ⊳ 1 ++ 4 ⊳ 1 ++ last 2 ++ filled (4 ⊳ 1 ++ 1 ⊳ 0 ++ blocks 1 ++ off))) 4 context.alternate-object-data-type 23
+    ∷ fails (bytes (dynamicOnly 1 0 ++ 1 ⊳ 1 ++ 4 ⊳ 1 ++ 4 ⊳ 5 ++ last 0 ++ filled (4 ⊳ 8))) 4 context.alternate-object-data-type 23
+    ∷ []
+
+-- Trim
+
+unfoldable pub trimCases : List Case
+trimCases =
+    -- "warp 2 bits, over 1 Invalid"
+    fails (ofElements (trim 2 0 0 (1 ⊳ 0) ∷ rest ∷ [])) 2 context.trim-warp-mode 24
+    ∷ fails (ofElements (trim 3 0 0 (1 ⊳ 0) ∷ rest ∷ [])) 2 context.trim-warp-mode 24
+    -- "2 zero bits"
+    ∷ fails (ofElements (trim 1 1 0 (1 ⊳ 0) ∷ rest ∷ [])) 2 context.trim-reserved-bits 26
+    ∷ fails (ofElements (trim 1 2 0 (1 ⊳ 0) ∷ rest ∷ [])) 2 context.trim-reserved-bits 26
+    -- "mode 2 bits, 2 Unsupported, 3 Invalid"
+    ∷ fails (ofElements (trim 1 0 2 (1 ⊳ 0) ∷ rest ∷ [])) 4 context.custom-trim-configuration 28
+    ∷ fails (ofElements (trim 1 0 3 (1 ⊳ 0) ∷ rest ∷ [])) 2 context.global-trim-mode 28
+    -- "flag, then one skipped bit per object": cut by the element's end, where the run begins
+    ∷ fails (ofElements (trim 1 0 1 (1 ⊳ 1) ∷ rest ∷ [])) 1 context.per-object-trim-disable-flags 31
+    -- good ones, before and behind the object element, and two of them
+    ∷ rests (ofElements (trim 0 0 0 (1 ⊳ 0) ∷ rest ∷ []))
+    ∷ rests (ofElements (rest ∷ trim 1 0 1 (1 ⊳ 1 ++ 1 ⊳ 1) ∷ trim 0 0 1 (1 ⊳ 1 ++ 1 ⊳ 0) ∷ []))
+    -- one bit for each of two objects
+    ∷ shows [] (bytes (dynamicOnly 2 0 ++ elements (trim 1 0 1 (1 ⊳ 1 ++ 2 ⊳ 3) ∷ element 1 (blocks 1 ++ off ++ off) ∷ []))) 2 1 0
+    (defaultOf 3 1 ∷ defaultOf 3 1 ∷ []) (offRow 31 31 (pos 0) 1 ∷ offRow 31 31 (pos 0) 1 ∷ [])
+    ∷ []
+
+-- Padding
+
+unfoldable pub paddingCases : List Case
+paddingCases =
+    -- "Padding of ids 1 and 2, and of the payload, is zero"; "Padding: its first 1 bit": in the object element, from bit 40,
+    fails (ofElements (element 1 (blocks 1 ++ off ++ 4 ⊳ 1) ∷ [])) 2 context.element-padding 43
+    ∷ fails (ofElements (element 1 (blocks 1 ++ off ++ 17 ⊳ 3) ∷ [])) 2 context.element-padding 55
+    -- in a trim element, from bit 31 and behind one skipped bit,
+    ∷ fails (ofElements (trim 0 0 0 (1 ⊳ 0 ++ 3 ⊳ 1) ∷ rest ∷ [])) 2 context.element-padding 33
+    ∷ fails (ofElements (trim 0 0 0 (1 ⊳ 1 ++ 2 ⊳ 3) ∷ rest ∷ [])) 2 context.element-padding 32
+    -- in the payload, from bit 47,
+    ∷ fails (bytes (dynamicOnly 1 0 ++ elements (rest ∷ []) ++ 9 ⊳ 1)) 2 context.payload-padding 55
+    ∷ rests (bytes (dynamicOnly 1 0 ++ elements (rest ∷ []) ++ 25 ⊳ 0))
+    -- and "A missing object element is found after payload padding"
+    ∷ fails (bytes (dynamicOnly 1 0 ++ elements [] ++ 2 ⊳ 1)) 2 context.payload-padding 15
+    ∷ []
+
+unfoldable pub elementCases : List Case
+unfolding sizeCases orderCases trimCases paddingCases
+elementCases = sizeCases ++ orderCases ++ trimCases ++ paddingCases
+
+pub element-cases : T (allHold elementCases)
+unfolding written ofElements bare fifteenAnd rest unknown more last rests trim elementCases
+element-cases = tt

@@ -1,0 +1,206 @@
+-- A writer of payloads, fields as width and value, and short names for rows: so that a case reads like its sentence in document 01.
+use Prim.Native.Nat.{ℕ, zero, suc, _+_, _*_, _-_, _/_, _%_, _^_}
+use mathlib.Core.Path.{_≡_, refl}
+use mathlib.Core.Bool.{true, false, cond}
+use mathlib.Core.List.{List, [], _∷_, _++_, flatten}
+use lib.Dec.{eqb, leb}
+use lib.IntN.{ℤ, pos, negℤ}
+use lib.ListN.{length, replicate}
+use Rattle.standard.specs.Computed.{computed}
+use Rattle.standard.specs.Journal.{Record, resetNotice}
+use Rattle.standard.specs.Cases.{Case, refuses, accepts, plainRow, headOfA, same, eqℤ, sameℤ, tablesAfter, answerNumbers, isCount, holds, allHold}
+
+-- Bits and bytes
+
+abbrev pub Bits : Type 0
+Bits = List ℕ
+
+-- v in w bits, the highest first
+infix 70 _⊳_
+unfoldable pub _⊳_ : ℕ → ℕ → Bits
+zero ⊳ v = []
+suc w ⊳ v = (v / 2 ^ w % 2) ∷ (w ⊳ v)
+
+-- the n bits of the last byte so far spell v
+unfoldable pub bytesFrom : ℕ → ℕ → Bits → List ℕ
+bytesFrom n v [] = cond (eqb n 0) [] (v * 2 ^ (8 - n) ∷ [])
+bytesFrom n v (b ∷ bs) = elim (eqb n 7) [ true ↦ (v * 2 + b) ∷ bytesFrom 0 0 bs | false ↦ bytesFrom (n + 1) (v * 2 + b) bs ]
+
+-- with zero fill
+unfoldable pub bytes : Bits → List ℕ
+bytes b = bytesFrom 0 0 b
+
+unfoldable pub filled : Bits → Bits
+filled b = b ++ replicate ((8 - length b % 8) % 8) 0
+
+-- The payload
+
+-- n bytes, in one or two groups
+unfoldable pub sizeGroups : ℕ → Bits
+sizeGroups n = cond (leb n 16) (4 ⊳ (n - 1) ++ 1 ⊳ 0) (4 ⊳ ((n - 17) / 16) ++ 1 ⊳ 1 ++ 4 ⊳ ((n - 17) % 16) ++ 1 ⊳ 0)
+
+-- id, size, and inside the element a discard flag
+unfoldable pub element : ℕ → Bits → Bits
+element id content =
+    let b = filled (1 ⊳ 0 ++ content) in
+    4 ⊳ id ++ sizeGroups (length b / 8) ++ b
+
+-- no alternate data; so many elements
+unfoldable pub elements : List Bits → Bits
+elements es = 1 ⊳ 0 ++ 4 ⊳ length es ++ flatten es
+
+-- version 0, n objects, dynamic-only, with or without an Lfe
+unfoldable pub dynamicOnly : ℕ → ℕ → Bits
+dynamicOnly n low = 2 ⊳ 0 ++ 5 ⊳ (n - 1) ++ 1 ⊳ 1 ++ 1 ⊳ low
+
+-- n Dynamic objects, and one object element that says this of them
+unfoldable pub said : ℕ → Bits → List ℕ
+said n content = bytes (dynamicOnly n 0 ++ elements (element 1 content ∷ []))
+
+-- the same, the first of the n an Lfe
+unfoldable pub saidWithLfe : ℕ → Bits → List ℕ
+saidWithLfe n content = bytes (dynamicOnly n 1 ++ elements (element 1 content ∷ []))
+
+-- The object element
+
+-- a block's start, in 32 samples, and its ramp
+unfoldable pub block : ℕ → Bits → Bits
+block factor ramp = 6 ⊳ factor ++ ramp
+
+-- an offset, the blocks' timings, reserved data absent
+unfoldable pub timed : Bits → List Bits → Bits
+timed offset ts = offset ++ 3 ⊳ (length ts - 1) ++ flatten ts ++ 1 ⊳ 1
+
+-- m blocks at 0, no ramps
+unfoldable pub blocks : ℕ → Bits
+blocks m = timed (2 ⊳ 0) (replicate m (block 0 (2 ⊳ 0)))
+
+-- an object in a block, with no table data
+unfoldable pub off : Bits
+off = 1 ⊳ 1 ++ 1 ⊳ 0
+
+unfoldable pub on : Bits → Bits
+on b = 1 ⊳ 0 ++ b ++ 1 ⊳ 0
+
+-- status 2, of basic and of render information
+unfoldable pub kept : Bits
+kept = 2 ⊳ 2
+
+-- Gain codes 0 to 3, and priority
+
+unfoldable pub unity : Bits
+unity = 2 ⊳ 0
+
+unfoldable pub silent : Bits
+silent = 2 ⊳ 1
+
+unfoldable pub level : ℕ → Bits
+level w = 2 ⊳ 2 ++ 6 ⊳ w
+
+unfoldable pub copied : Bits
+copied = 2 ⊳ 3
+
+unfoldable pub usual : Bits
+usual = 1 ⊳ 1
+
+unfoldable pub priority : ℕ → Bits
+priority n = 1 ⊳ 0 ++ 5 ⊳ n
+
+-- Render information
+
+-- x, y, sign, z
+unfoldable pub spot : ℕ → ℕ → ℕ → ℕ → Bits
+spot x y sign z = 6 ⊳ x ++ 6 ⊳ y ++ 1 ⊳ sign ++ 4 ⊳ z
+
+-- in block 0, no distance
+unfoldable pub place : ℕ → ℕ → ℕ → ℕ → Bits
+place x y sign z = spot x y sign z ++ 1 ⊳ 0
+
+-- past block 0: absolute, or by steps in 3 bits (4 is -4, 7 is -1)
+unfoldable pub to : ℕ → ℕ → ℕ → ℕ → Bits
+to x y sign z = 1 ⊳ 0 ++ place x y sign z
+
+unfoldable pub moved : ℕ → ℕ → ℕ → Bits
+moved x y z = 1 ⊳ 1 ++ 3 ⊳ x ++ 3 ⊳ y ++ 3 ⊳ z ++ 1 ⊳ 0
+
+unfoldable pub free : Bits
+free = 1 ⊳ 0
+
+unfoldable pub locked : Bits
+locked = 1 ⊳ 1
+
+-- zone 0 with elevation, no size, no screen, no lock
+unfoldable pub plain : Bits
+plain = 3 ⊳ 0 ++ 1 ⊳ 1 ++ 2 ⊳ 0 ++ 1 ⊳ 0 ++ free
+
+-- zone 5 without elevation, one size 9, screen with its 5 dropped bits, lock
+unfoldable pub rich : Bits
+rich = 3 ⊳ 5 ++ 1 ⊳ 0 ++ 2 ⊳ 1 ++ 5 ⊳ 9 ++ 1 ⊳ 1 ++ 3 ⊳ 7 ++ 2 ⊳ 3 ++ locked
+
+-- render status 3: the flags of position, zone, size, screen
+unfoldable pub groups : ℕ → Bits → Bits
+groups flags b = 2 ⊳ 3 ++ 4 ⊳ flags ++ b
+
+-- an active block 0: a gain, usual priority, a place, the rest plain
+unfoldable pub first : Bits → Bits → Bits
+first gain place = on (gain ++ usual ++ place ++ plain)
+
+-- Payloads of one object in one block: at rest, and at (10, 20, 5)
+
+abbrev pub restOne : List ℕ
+restOne = said 1 (blocks 1 ++ off)
+
+abbrev pub movedOne : List ℕ
+movedOne = said 1 (blocks 1 ++ first unity (place 10 20 1 5))
+
+-- Rows
+
+abbrev pub neg : ℕ → ℤ
+neg n = negℤ (pos n)
+
+-- a Dynamic: active, gain, priority; x, y, z; width, depth, height, screen, lock, zone, elevation; mark
+abbrev pub row : ℕ → ℤ → ℕ → ℕ → ℕ → ℤ → ℕ → ℕ → ℕ → ℕ → ℕ → ℕ → ℕ → ℕ → List ℤ
+row a g n x y z w d h s l c e m =
+    pos 3 ∷ pos a ∷ g ∷ pos n ∷ pos x ∷ pos y ∷ z ∷ pos w ∷ pos d ∷ pos h ∷ pos s ∷ pos l ∷ pos c ∷ pos e ∷ pos m ∷ []
+
+-- with a plain picture, active or not
+abbrev pub onRow : ℤ → ℕ → ℕ → ℕ → ℤ → ℕ → List ℤ
+onRow g n x y z m = row 1 g n x y z 0 0 0 0 0 0 1 m
+
+abbrev pub offRow : ℕ → ℕ → ℤ → ℕ → List ℤ
+offRow x y z m = row 0 (neg 128) 0 x y z 0 0 0 0 0 0 1 m
+
+-- with a rich one
+abbrev pub richRow : ℕ → ℤ → ℕ → ℕ → ℕ → ℤ → ℕ → List ℤ
+richRow a g n x y z m = row a g n x y z 9 9 9 1 1 5 0 m
+
+-- of any kind, with the default picture: the default row, and an inactive one
+abbrev pub defaultOf : ℕ → ℕ → List ℤ
+defaultOf k m = plainRow (pos k) (pos 1) (pos 0) (pos 32) (pos 31) (pos 31) (pos 0) (pos m)
+
+abbrev pub inactiveOf : ℕ → ℕ → List ℤ
+inactiveOf k m = plainRow (pos k) (pos 0) (neg 128) (pos 0) (pos 31) (pos 31) (pos 0) (pos m)
+
+-- Cases. Each begins with a reset: its tables are those of a fresh decoder, and computed once for all cases
+
+-- after these records: a payload; objects, blocks, unsettled; start rows; block rows; timings
+unfoldable pub gives : List Record → List ℕ → ℕ → ℕ → ℕ → List (List ℤ) → List (List ℤ) → List ℕ → Case
+gives rs s n b u start rows timings = accepts (resetNotice ∷ rs) s (n ∷ b ∷ u ∷ []) (flatten start) (flatten rows) timings
+
+-- all blocks at 0, no ramps
+unfoldable pub shows : List Record → List ℕ → ℕ → ℕ → ℕ → List (List ℤ) → List (List ℤ) → Case
+shows rs s n b u start rows = gives rs s n b u start rows (replicate (2 * b) 0)
+
+-- a payload; number, context, place
+unfoldable pub fails : List ℕ → ℕ → ℕ → ℕ → Case
+fails s n c p = refuses (resetNotice ∷ []) s n c p
+
+-- Everything opened, for the tables of cases: `unfolding written`
+unfoldable pub written : Unit {0}
+unfolding computed same eqℤ sameℤ tablesAfter answerNumbers isCount holds allHold flatten _⊳_ bytesFrom bytes filled sizeGroups element elements dynamicOnly said saidWithLfe block timed blocks off on kept unity silent level copied usual priority spot place to moved free locked plain rich groups first gives shows fails
+written = tt
+
+-- at rest it is document 01's A
+pub rest-is-A : restOne ≡ headOfA ++ 0x00 ∷ []
+unfolding written
+rest-is-A = refl

@@ -1,0 +1,42 @@
+-- Determinacy, of each public call's own `ensures`: two ends that meet it for one entry show the same numbers, lists and parts.
+use Prim.Native.Nat.{ℕ}
+use mathlib.Core.Path.{_≡_, sym, _∙_}
+use mathlib.Core.List.{List}
+use lib.IntN.{ℤ}
+use denote.Ref.{now}
+use Rattle.standard.specs.Calls.{Kept, PartAnswer}
+use Rattle.rows.specs.Promises.{Left, Handed}
+use Rattle.rows.proofs.calls.reset.Reads as reset
+use Rattle.rows.proofs.calls.gap.Reads as gap
+use Rattle.rows.proofs.calls.row_number.Reads as row-number
+use Rattle.rows.proofs.calls.row_part.Reads as row-part
+
+-- what is seen of the value v that is given back and of the parameters s at exit follows from the parameters a at entry
+module _ {K : Type 0} {In Given Out : K → Type 0} {Seen : Type 0} where
+  abbrev pub Determines : ((κs : K) → In κs → Given κs → Out κs → Type 0) → ((κs : K) → Given κs → Out κs → Seen) → Type 0
+  Determines Post see = (κs : K) (a : In κs) (v v′ : Given κs) (s s′ : Out κs) → Post κs a v s → Post κs a v′ s′ → see κs v s ≡ see κs v′ s′
+
+abbrev kept : ℕ → List ℤ → Kept
+kept n l = record { number = n; retained = l }
+
+abbrev handed : ℕ → List ℤ → PartAnswer
+handed n p = record { number = n; part = p }
+
+kept-is : {k : Kept} {n : ℕ} {l : List ℤ} → Left k n l → kept n l ≡ k
+kept-is p = λ i. kept (p .number i) (p .retained i)
+
+handed-is : {a : PartAnswer} {n : ℕ} {l : List ℤ} → Handed a n l → handed n l ≡ a
+handed-is p = λ i. handed (p .number i) (p .part i)
+
+pub reset-determined : Determines reset.Post (λ κs n s. kept n (now (s .0)))
+reset-determined κs a n n′ s s′ p q = kept-is p ∙ sym (kept-is q)
+
+pub gap-determined : Determines gap.Post (λ κs n s. kept n (now (s .0)))
+gap-determined κs a n n′ s s′ p q = kept-is p ∙ sym (kept-is q)
+
+pub row-number-determined : Determines row-number.Post (λ κs n s. n)
+row-number-determined κs a n n′ s s′ p q = p ∙ sym q
+
+-- the number is behind the third parameter
+pub row-part-determined : Determines row-part.Post (λ κs part s. handed (now (s .1 .1 .0)) (now part))
+row-part-determined κs a part part′ s s′ p q = handed-is p ∙ sym (handed-is q)

@@ -1,0 +1,11 @@
+-- Laws and the proofs that stand on several functions; callers cite Written, Puts, Rows, Tests, Keeping and Determined.
+pub mod Lists
+pub mod Written
+pub mod Storing
+pub mod Puts
+pub mod Rows
+pub mod Tests
+pub mod Passing
+pub mod Keeping
+pub mod Answers
+pub mod Determined

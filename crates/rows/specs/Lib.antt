@@ -1,0 +1,5 @@
+-- What the contracts of this crate cite beside the paper.
+pub mod Say
+pub mod Places
+pub mod Retained
+pub mod Promises

@@ -1,0 +1,66 @@
+// The public calls that need a table alone: reset, gap, and the row of an object. None asks anything of its caller.
+ghost use mathlib.Core.Path.{_≡_};
+ghost use Rattle.standard.specs.Calls.{reset, gap, rowNumber, partCall};
+ghost use Rattle.rows.specs.Promises.{Left, Handed};
+use crate::form::in_form;
+use crate::form::shown_form;
+use crate::numbers::ACCEPTED;
+use crate::numbers::FORM;
+use crate::numbers::INDEX;
+use crate::numbers::RETAINED_LENGTH;
+use crate::numbers::ROOM;
+use crate::numbers::ROW_WIDTH;
+use crate::table::clear;
+use crate::table::row_at;
+
+pub fn reset(retained: &mut [i16]) -> u32
+    ensures { λ r. ⌜ Left (reset (now (retained .entry))) r (now (retained .exit)) ⌝ }
+{
+    if retained.len() < RETAINED_LENGTH {
+        return ROOM;
+    }
+    clear(retained, RETAINED_LENGTH);
+    ACCEPTED
+}
+
+// Only the doubt changes.
+pub fn gap(retained: &mut [i16]) -> u32
+    ensures { λ r. ⌜ Left (gap (now (retained .entry))) r (now (retained .exit)) ⌝ }
+{
+    if retained.len() < RETAINED_LENGTH {
+        return ROOM;
+    }
+    if !in_form(retained) {
+        return FORM;
+    }
+    retained[1] = 1;
+    ACCEPTED
+}
+
+// Why the row at an index cannot be shown. The rows are counted first, since the index may be any number.
+pub fn row_number(table: &[i16], index: usize) -> u32
+    ensures { λ r. ⌜ r ≡ rowNumber (now (table .entry)) index ⌝ }
+{
+    let rows = table.len() / ROW_WIDTH;
+    if rows <= index {
+        return INDEX;
+    }
+    if shown_form(row_at(table, index * ROW_WIDTH)) {
+        return ACCEPTED;
+    }
+    FORM
+}
+
+// The row at an index as a part of the caller's table: empty where its number is not 0.
+pub fn row_part<'a>(table: &'a [i16], index: usize, number: &mut u32) -> &'a [i16]
+    ensures { λ r. ⌜ Handed (partCall (now (table .entry)) index) (now (number .exit)) (now r) ⌝ }
+{
+    let n = row_number(table, index);
+    *number = n;
+    if n != ACCEPTED {
+        return &table[0..0];
+    }
+    let at = index * ROW_WIDTH;
+    let end = at + ROW_WIDTH;
+    &table[at..end]
+}

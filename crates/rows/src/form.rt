@@ -1,0 +1,162 @@
+// The form of a row and of the retained table. A row's tests are all computed, with no branch, and named as in the definitions.
+ghost use mathlib.Core.Path.{_≡_};
+ghost use Prim.Native.Nat.{_+_, _*_, _≤_};
+ghost use lib.ListN.{length, drop};
+ghost use Rattle.standard.specs.Numbers.{rowWidth, retainedHead, retainedLength};
+ghost use Rattle.standard.specs.Tables.{between, isFlag, gainForm, positionForm, zoneForm, sizeForm, pictureForm, isDefault, activeForm, fixedForm, shownForm, rowForm, rowsOf, allForm, inForm};
+ghost use Rattle.rows.specs.Say.{positionSaid, zoneSaid, sizeSaid, pictureSaid, rowSaid};
+use crate::numbers::OBJECT_LIMIT;
+use crate::numbers::RETAINED_HEAD;
+use crate::numbers::ROW_WIDTH;
+use crate::retained::count_of;
+use crate::row::DYNAMIC;
+use crate::row::Picture;
+use crate::row::Position;
+use crate::row::Row;
+use crate::row::SILENCE;
+use crate::row::Size;
+use crate::row::Zone;
+use crate::table::row_at;
+
+fn within(lo: i16, hi: i16, v: i16) -> bool
+    ensures { λ r. ⌜ r ≡ between lo hi v ⌝ }
+{
+    let above = lo <= v;
+    let below = v <= hi;
+    above & below
+}
+
+fn is_flag(v: i16) -> bool
+    ensures { λ r. ⌜ r ≡ isFlag v ⌝ }
+{
+    within(0, 1, v)
+}
+
+fn gain_form(v: i16) -> bool
+    ensures { λ r. ⌜ r ≡ gainForm v ⌝ }
+{
+    let silent = v == SILENCE;
+    let heard = within(-49, 15, v);
+    silent | heard
+}
+
+fn position_form(p: Position) -> bool
+    ensures { λ r. ⌜ r ≡ positionForm (positionSaid p) ⌝ }
+{
+    let x = within(0, 62, p.x);
+    let y = within(0, 62, p.y);
+    let z = within(-15, 15, p.z);
+    x & y & z
+}
+
+fn zone_form(z: Zone) -> bool
+    ensures { λ r. ⌜ r ≡ zoneForm (zoneSaid z) ⌝ }
+{
+    let zone = within(0, 5, z.zone);
+    let elevation = is_flag(z.elevation);
+    zone & elevation
+}
+
+fn size_form(s: Size) -> bool
+    ensures { λ r. ⌜ r ≡ sizeForm (sizeSaid s) ⌝ }
+{
+    let width = within(0, 31, s.width);
+    let depth = within(0, 31, s.depth);
+    let height = within(0, 31, s.height);
+    width & depth & height
+}
+
+fn picture_form(p: Picture) -> bool
+    ensures { λ r. ⌜ r ≡ pictureForm (pictureSaid p) ⌝ }
+{
+    let position = position_form(p.position);
+    let zone = zone_form(p.zone);
+    let size = size_form(p.size);
+    let screen = is_flag(p.screen);
+    let lock = is_flag(p.lock);
+    position & zone & size & screen & lock
+}
+
+fn is_default(p: Picture) -> bool
+    ensures { λ r. ⌜ r ≡ isDefault (pictureSaid p) ⌝ }
+{
+    (p.position.x == 31)
+        & (p.position.y == 31)
+        & (p.position.z == 0)
+        & (p.size.width == 0)
+        & (p.size.depth == 0)
+        & (p.size.height == 0)
+        & (p.screen == 0)
+        & (p.lock == 0)
+        & (p.zone.zone == 0)
+        & (p.zone.elevation == 1)
+}
+
+// An inactive row is silent and has priority 0.
+fn active_form(row: Row) -> bool
+    ensures { λ r. ⌜ r ≡ activeForm (rowSaid row) ⌝ }
+{
+    (row.active == 1) | ((row.gain == SILENCE) & (row.priority == 0))
+}
+
+// A fixed kind has the default picture.
+fn fixed_form(row: Row) -> bool
+    ensures { λ r. ⌜ r ≡ fixedForm (rowSaid row) ⌝ }
+{
+    let dynamic = row.kind == DYNAMIC;
+    let default = is_default(row.picture);
+    dynamic | default
+}
+
+// A row to be shown: a fixed kind has either mark.
+pub fn shown_form(row: Row) -> bool
+    ensures { λ r. ⌜ r ≡ shownForm (rowSaid row) ⌝ }
+{
+    let kind = within(0, 3, row.kind);
+    let flag = is_flag(row.active);
+    let gain = gain_form(row.gain);
+    let priority = within(0, 32, row.priority);
+    let picture = picture_form(row.picture);
+    let mark = is_flag(row.mark);
+    let active = active_form(row);
+    let fixed = fixed_form(row);
+    kind & flag & gain & priority & picture & mark & active & fixed
+}
+
+// A retained row: a fixed kind has mark 1.
+pub fn row_form(row: Row) -> bool
+    ensures { λ r. ⌜ r ≡ rowForm (rowSaid row) ⌝ }
+{
+    let shown = shown_form(row);
+    let dynamic = row.kind == DYNAMIC;
+    let full = row.mark == 1;
+    shown & (dynamic | full)
+}
+
+fn rows_form(table: &[i16], count: usize) -> bool
+    requires { ⌜ retainedHead + count * rowWidth ≤ length (now table) ⌝ }
+    ensures { λ r. ⌜ r ≡ allForm (rowsOf count (drop retainedHead (now (table .entry)))) ⌝ }
+{
+    for i in 0..count {
+        let row = row_at(table, RETAINED_HEAD + i * ROW_WIDTH);
+        if !row_form(row) {
+            return false;
+        }
+    }
+    true
+}
+
+// The retained table. The rows are counted only once the count is known to be in form.
+pub fn in_form(table: &[i16]) -> bool
+    requires { ⌜ retainedLength ≤ length (now table) ⌝ }
+    ensures { λ r. ⌜ r ≡ inForm (now (table .entry)) ⌝ }
+{
+    let count = table[0];
+    let doubt = table[1];
+    let counted = within(0, OBJECT_LIMIT as i16, count);
+    let doubted = is_flag(doubt);
+    if !(counted & doubted) {
+        return false;
+    }
+    rows_form(table, count_of(table))
+}

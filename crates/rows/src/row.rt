@@ -1,0 +1,130 @@
+// A row by value, nested as in the paper: read from its numbers, and laid out as numbers again.
+ghost use mathlib.Core.Path.{_≡_};
+ghost use lib.ListN.{length};
+ghost use Rattle.standard.specs.Numbers.{rowWidth};
+ghost use Rattle.standard.specs.Tables.{rowNumbers, rowOf};
+ghost use Rattle.rows.specs.Say.{positionSaid, zoneSaid, sizeSaid, pictureSaid, rowSaid};
+use crate::numbers::ROW_WIDTH;
+
+// The gain of minus infinity.
+pub const SILENCE: i16 = -128;
+
+// The one kind that is not fixed.
+pub const DYNAMIC: i16 = 3;
+
+pub struct Position {
+    pub x: i16,
+    pub y: i16,
+    pub z: i16,
+}
+
+pub struct Zone {
+    pub zone: i16,
+    pub elevation: i16,
+}
+
+pub struct Size {
+    pub width: i16,
+    pub depth: i16,
+    pub height: i16,
+}
+
+pub struct Picture {
+    pub position: Position,
+    pub zone: Zone,
+    pub size: Size,
+    pub screen: i16,
+    pub lock: i16,
+}
+
+pub struct Row {
+    pub kind: i16,
+    pub active: i16,
+    pub gain: i16,
+    pub priority: i16,
+    pub picture: Picture,
+    pub mark: i16,
+}
+
+fn position_of(part: &[i16]) -> Position
+    requires { ⌜ length (now part) ≡ rowWidth ⌝ }
+    ensures { λ r. ⌜ positionSaid r ≡ rowOf (now (part .entry)) .picture .position ⌝ }
+{
+    Position {
+        x: part[4],
+        y: part[5],
+        z: part[6],
+    }
+}
+
+fn zone_of(part: &[i16]) -> Zone
+    requires { ⌜ length (now part) ≡ rowWidth ⌝ }
+    ensures { λ r. ⌜ zoneSaid r ≡ rowOf (now (part .entry)) .picture .zone ⌝ }
+{
+    Zone {
+        zone: part[12],
+        elevation: part[13],
+    }
+}
+
+fn size_of(part: &[i16]) -> Size
+    requires { ⌜ length (now part) ≡ rowWidth ⌝ }
+    ensures { λ r. ⌜ sizeSaid r ≡ rowOf (now (part .entry)) .picture .size ⌝ }
+{
+    Size {
+        width: part[7],
+        depth: part[8],
+        height: part[9],
+    }
+}
+
+fn picture_of(part: &[i16]) -> Picture
+    requires { ⌜ length (now part) ≡ rowWidth ⌝ }
+    ensures { λ r. ⌜ pictureSaid r ≡ rowOf (now (part .entry)) .picture ⌝ }
+{
+    Picture {
+        position: position_of(part),
+        zone: zone_of(part),
+        size: size_of(part),
+        screen: part[10],
+        lock: part[11],
+    }
+}
+
+// The row that the numbers of a part are.
+pub fn row_of(part: &[i16]) -> Row
+    requires { ⌜ length (now part) ≡ rowWidth ⌝ }
+    ensures { λ r. ⌜ rowSaid r ≡ rowOf (now (part .entry)) ⌝ }
+{
+    Row {
+        kind: part[0],
+        active: part[1],
+        gain: part[2],
+        priority: part[3],
+        picture: picture_of(part),
+        mark: part[14],
+    }
+}
+
+// The numbers of a row, in the order of a table.
+pub fn row_numbers(row: Row) -> [i16; ROW_WIDTH]
+    ensures { λ r. ⌜ r ≡ rowNumbers (rowSaid row) ⌝ }
+{
+    [
+        row.kind,
+        row.active,
+        row.gain,
+        row.priority,
+        row.picture.position.x,
+        row.picture.position.y,
+        row.picture.position.z,
+        row.picture.size.width,
+        row.picture.size.depth,
+        row.picture.size.height,
+        row.picture.screen,
+        row.picture.lock,
+        row.picture.zone.zone,
+        row.picture.zone.elevation,
+        row.mark,
+    ]
+}

@@ -11,6 +11,7 @@ use Rattle.standard.specs.Numbers.{rowWidth}
 use Rattle.standard.specs.Rows.{Row, noRow}
 use Rattle.standard.specs.Tables.{rowNumbers, rowOf, rowsNumbers, rowsOf}
 use Rattle.standard.specs.Calls.{over}
+pub use Rattle.standard.proofs.Laid.{rows-back, rows-length as length-rowsNumbers, rows-append as rowsNumbers-append}
 use Rattle.rows.specs.Places.{rowAt, put}
 use Rattle.rows.proofs.Written.{over-next}
 use Rattle.rows.proofs.Puts.{length-row}
@@ -37,31 +38,10 @@ getD-rowsOf (suc n) (suc i) at l h =
 
 -- Laid out as numbers
 
-pub length-rowsNumbers : (rs : List Row) → length (rowsNumbers rs) ≡ length rs * rowWidth
-unfolding rowsNumbers rowWidth
-length-rowsNumbers [] = refl
-length-rowsNumbers (r ∷ rs) = rw (length-append, length-row r, length-rowsNumbers rs) (omega arith)
-
 pub length-rows : (n : ℕ) (l : List ℤ) → length (rowsNumbers (rowsOf n l)) ≡ n * rowWidth
 length-rows n l = length-rowsNumbers (rowsOf n l) ∙ ap (λ (m : ℕ). m * rowWidth) (length-rowsOf n l)
 
-pub rowsNumbers-append : (rs qs : List Row) → rowsNumbers (rs ++ qs) ≡ rowsNumbers rs ++ rowsNumbers qs
-unfolding rowsNumbers
-rowsNumbers-append [] qs = refl
-rowsNumbers-append (r ∷ rs) qs = rw (rowsNumbers-append rs qs, append-assoc)
-
 -- Laid out, and read again
-
-pub rows-back : (rs : List Row) (l : List ℤ) → rowsOf (length rs) (rowsNumbers rs ++ l) ≡ rs
-unfolding rowsOf rowsNumbers rowOf rowNumbers
-rows-back [] l = refl
-rows-back (r ∷ rs) l =
-    rw (
-      append-assoc (rowNumbers r) (rowsNumbers rs) l,
-      take-at (rowNumbers r) (rowsNumbers rs ++ l) rowWidth (length-row r),
-      drop-at (rowNumbers r) (rowsNumbers rs ++ l) rowWidth (length-row r),
-    )
-    (ap (λ (q : List Row). r ∷ q) (rows-back rs l))
 
 -- row i of the rows written over a table's head
 pub rowAt-over : (rs : List Row) (l : List ℤ) (i : ℕ) → i < length rs → rowAt (over (rowsNumbers rs) l) (i * rowWidth) ≡ getD rs i noRow

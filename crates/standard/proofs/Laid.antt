@@ -49,6 +49,11 @@ row-past : (r : Row) (z : List ℤ) (i : ℕ) → drop (suc i * rowWidth) (rowNu
 unfolding rowNumbers rowWidth
 row-past r z i = let e : suc i * 15 ≡ 15 + i * 15 = omega arith in rw e (drop-append-add (rowNumbers r) z (i * 15))
 
+pub rows-append : (xs ys : List Row) → rowsNumbers (xs ++ ys) ≡ rowsNumbers xs ++ rowsNumbers ys
+unfolding rowsNumbers
+rows-append [] ys = refl
+rows-append (x ∷ xs) ys = ap (λ z. rowNumbers x ++ z) (rows-append xs ys) ∙ sym (append-assoc (rowNumbers x) (rowsNumbers xs) (rowsNumbers ys))
+
 -- row i of those that were laid out
 pub part-back : (rs : List Row) (z : List ℤ) (i : ℕ) → i < length rs → rowOf (rowPart (rowsNumbers rs ++ z) i) ≡ getD rs i noRow
 unfolding rowPart rowsNumbers

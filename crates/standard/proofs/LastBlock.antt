@@ -11,9 +11,9 @@ use Rattle.bits.proofs.Always.{All}
 use Rattle.standard.specs.Numbers.{rowWidth}
 use Rattle.standard.specs.Rows.{Row, noRow}
 use Rattle.standard.specs.Meaning.{lastRow}
-use Rattle.standard.specs.Tables.{rowNumbers, rowsNumbers, inBlock, byBlock}
+use Rattle.standard.specs.Tables.{rowsNumbers, inBlock, byBlock}
 use Rattle.standard.proofs.Blocks.{blocks-length}
-use Rattle.standard.proofs.Laid.{rows-length}
+use Rattle.standard.proofs.Laid.{rows-length, rows-append}
 
 -- The last block's rows
 
@@ -40,11 +40,6 @@ blocks-last (suc n) b rss =
     let e : suc b + n ≡ b + suc n = omega arith in
     ap (λ z. inBlock b rss ++ z) (blocks-last n (suc b) rss ∙ ap (λ c. byBlock n (suc b) rss ++ inBlock c rss) e)
     ∙ sym (append-assoc (inBlock b rss) (byBlock n (suc b) rss) (inBlock (b + suc n) rss))
-
-rows-append : (xs ys : List Row) → rowsNumbers (xs ++ ys) ≡ rowsNumbers xs ++ rowsNumbers ys
-unfolding rowsNumbers
-rows-append [] ys = refl
-rows-append (x ∷ xs) ys = ap (λ z. rowNumbers x ++ z) (rows-append xs ys) ∙ sym (append-assoc (rowNumbers x) (rowsNumbers xs) (rowsNumbers ys))
 
 pub last-numbers : (m : ℕ) (rss : List (List Row)) (z : List ℤ) → All (λ (rs : List Row). length rs ≡ suc m) rss
     → take (length rss * rowWidth) (drop (m * length rss * rowWidth) (rowsNumbers (byBlock (suc m) 0 rss) ++ z)) ≡ rowsNumbers (map lastRow rss)

@@ -3,7 +3,7 @@ use Prim.Native.Nat.{ℕ}
 use mathlib.Core.Path.{_≡_, refl, sym}
 use mathlib.Core.Bool.{Bool, true, false, cond}
 use mathlib.Core.List.{List}
-use Rattle.bits.specs.Parsed.{Refusal, Parsed, got, refused, Parser, andThen, mapParsed, _>>=_, _>>_, mapP, pure, refuse, within, here, Placed, placed}
+use Rattle.bits.specs.Parsed.{Refusal, Parsed, got, refused, Parser, andThen, mapParsed, _>>=_, _>>_, mapP, pure, refuse, within, here, placed}
 use Rattle.bits.proofs.Always.{Ok, Always, anything}
 use Rattle.bits.proofs.ParsedLaws.{map-map, placed-word}
 

@@ -1,11 +1,10 @@
 -- Small reads, computed: what each gives and where each is refused.
-use Prim.Native.Nat.{ℕ}
 use mathlib.Core.Path.{_≡_, refl}
-use mathlib.Core.Bool.{true, false}
-use mathlib.Core.List.{List, [], _∷_}
-use lib.IntN.{ℤ, pos, negsuc}
+use mathlib.Core.Bool.{true}
+use mathlib.Core.List.{[], _∷_}
+use lib.IntN.{pos, negsuc}
 use Rattle.bits.specs.Bits.{bitAt, field}
-use Rattle.bits.specs.Parsed.{Parsed, got, refused, _>>=_, mapP, pure, refuse, refusedAs, here, truncated, invalid, limit}
+use Rattle.bits.specs.Parsed.{got, refused, _>>=_, mapP, pure, refuse, refusedAs, here, truncated, invalid, limit}
 use Rattle.bits.specs.Reads.{read, flag, skip, zeros, padding, signed, readSigned, laterGroups, variableBits}
 
 -- Fields

@@ -4,7 +4,7 @@ use mathlib.Core.Bool.{Bool, true, false, cond}
 use lib.Dec.{leb, ltb, eqb}
 use lib.IntN.{ℤ, pos, subℕ}
 use Rattle.bits.specs.Bits.{bitAt, field}
-use Rattle.bits.specs.Parsed.{Parsed, got, refused, Parser, _>>=_, mapP, pure, refuse, refusedAs, here, truncated, invalid, limit}
+use Rattle.bits.specs.Parsed.{got, refused, Parser, _>>=_, mapP, pure, refuse, refusedAs, here, truncated, invalid, limit}
 
 -- w bits as a number
 unfoldable pub read : ℕ → ℕ → Parser ℕ

@@ -5,8 +5,8 @@ use mathlib.Core.List.{List, [], _∷_, _++_, append-assoc, append-nil}
 use native.Mathlib.Nat.{zero-add, zero-mul, add-zero, not-suc-le-zero}
 use native.Mathlib.Omega.{arith}
 use lib.IntN.{ℤ, pos}
-use lib.ListN.{length, getD, take, drop, length-append, length-drop, take-append-drop}
-use lib.Seq.{drop-drop, drop-cons, drop-length, length-take-le, take-at, drop-at}
+use lib.ListN.{length, getD, take, drop, length-drop, take-append-drop}
+use lib.Seq.{drop-drop, drop-cons, drop-length, length-take-le, take-at}
 use Rattle.standard.specs.Numbers.{rowWidth}
 use Rattle.standard.specs.Rows.{Row, noRow}
 use Rattle.standard.specs.Tables.{rowNumbers, rowOf, rowsNumbers, rowsOf}

@@ -1,5 +1,4 @@
 -- Two decoders at one payload: rows that agree where the second's marks say so stay so, update by update and block by block.
-use Prim.Native.Nat.{ℕ}
 use mathlib.Core.Path.{_≡_, refl, ap}
 use mathlib.Core.Bool.{Bool, true, false, cond, _&&_, _||_, false≢true}
 use mathlib.Core.List.{List, [], _∷_, map}
@@ -8,10 +7,10 @@ use lib.IntN.{ℤ, pos}
 use lib.ListN.{getD, drop}
 use Rattle.bits.specs.Parsed.{Placed}
 use Rattle.bits.proofs.Always.{All}
-use Rattle.standard.specs.Tree.{Kind, isDynamic, Position, GainWord, level, copied, PositionWord, absolute, moved, Render, default, kept, given, Update, inactive, active, Object}
+use Rattle.standard.specs.Tree.{Kind, isDynamic, Position, GainWord, PositionWord, absolute, moved, Render, default, kept, given, Update, inactive, active, Object}
 use Rattle.standard.specs.Rows.{Row, Picture, Group, itsPosition, itsZone, itsSize, itsScreen, itsLock, part, noRow}
 use Rattle.standard.specs.Marks.{isSome, isAbsolute, absolutelySaid, settled, marked, settles, newMark, rowMark}
-use Rattle.standard.specs.Meaning.{orBefore, gainSaid, newGain, positionSaid, newPosition, newPicture, rowPicture, updated, objectRows, allRows, gainOf}
+use Rattle.standard.specs.Meaning.{orBefore, newGain, positionSaid, newPosition, newPicture, rowPicture, updated, objectRows, allRows, gainOf}
 use Rattle.standard.proofs.Small.{and-left, and-right, Pairs}
 use Rattle.standard.proofs.MarkLaws.{mark-sound}
 use Rattle.standard.proofs.FirstBlock.{firstForm, FirstIn, ObjectForm}

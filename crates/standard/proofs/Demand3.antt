@@ -8,16 +8,16 @@ use lib.ListN.{getD, drop}
 use Rattle.bits.specs.Parsed.{Parsed, got, refused}
 use Rattle.bits.proofs.Always.{Ok, All}
 use Rattle.standard.specs.Tree.{Kind, lfe, bed, isf, dynamic, kindCode, isDynamic, Update, inactive, active, Object, Tree, kindsOf}
-use Rattle.standard.specs.Rows.{Row, Picture, Group, State, fresh, defaultPicture, noRow, is}
+use Rattle.standard.specs.Rows.{Row, State, fresh, defaultPicture, noRow, is}
 use Rattle.standard.specs.Marks.{settled, unsettled, marked}
-use Rattle.standard.specs.Meaning.{defaultRow, heldRow, sameKinds, startRows, newPicture, rowPicture, updated, objectRows, allRows, gainOf, frameRows, lastRow, lastRows, retain, retainIf, taken, decoded, gapped}
+use Rattle.standard.specs.Meaning.{defaultRow, heldRow, sameKinds, startRows, rowPicture, updated, objectRows, allRows, gainOf, frameRows, lastRow, lastRows, retain, retainIf, taken, decoded, gapped}
 use Rattle.standard.specs.Events.{Event, resets, heard, missed, first, second, run}
 use Rattle.standard.proofs.Small.{number-is, Pairs}
 use Rattle.standard.proofs.Starts.{start-each}
 use Rattle.standard.proofs.Frames.{last-rows-have}
 use Rattle.standard.proofs.MarkLaws.{mark-none, none-differs}
 use Rattle.standard.proofs.FirstBlock.{TreeForm, first-block}
-use Rattle.standard.proofs.Agreement.{Same, Settled, Close, Starts, RowAgree, frames-agree}
+use Rattle.standard.proofs.Agreement.{Same, Settled, Starts, RowAgree, frames-agree}
 
 -- Fixed kinds keep the default picture
 

@@ -3,12 +3,11 @@ use Prim.Native.Nat.{ℕ}
 use mathlib.Core.Path.{_≡_, refl}
 use mathlib.Core.Bool.{Bool, true, false, cond, not, _&&_, _||_}
 use mathlib.Core.List.{List, [], _∷_}
-use mathlib.Core.Option.{some}
 use Rattle.bits.specs.Bits.{isSet}
-use Rattle.bits.specs.Parsed.{Parser, _>>=_, pure, here, Placed}
-use Rattle.bits.proofs.Always.{Ok, Always, OfWord, bind, after, next, choose, given, from-pure, from-some, from-some-such, mapped-such, at-place}
+use Rattle.bits.specs.Parsed.{_>>=_, pure, here}
+use Rattle.bits.proofs.Always.{Ok, Always, bind, after, next, choose, given, from-pure, from-some, from-some-such, mapped-such, at-place}
 use Rattle.standard.specs.Contexts as context
-use Rattle.standard.specs.Tree.{Kind, isDynamic, Basic, Groups, Render, kept, Update, inactive, active, Object, Tree, PositionWord, Zone, Size}
+use Rattle.standard.specs.Tree.{Kind, isDynamic, Render, kept, Update, inactive, active, Object, Tree}
 use Rattle.standard.specs.Updates.{basic, absolutely, positionWord, groups, render, status, activeUpdate, update, object}
 use Rattle.standard.specs.Marks.{isSome, isAbsolute, settles, settlesAll}
 use Rattle.standard.specs.Meaning.{taken}

@@ -1,27 +1,22 @@
 -- An update makes of a row to be shown a row in form.
-use Prim.Native.Nat.{ℕ}
 use mathlib.Core.Path.{_≡_, refl, sym}
-use mathlib.Core.Bool.{Bool, true, false, cond, not, _&&_, _||_, false≢true}
-use mathlib.Core.List.{List, [], _∷_, map}
+use mathlib.Core.Bool.{Bool, true, false, cond, not, _||_, false≢true}
+use mathlib.Core.List.{List, [], _∷_}
 use mathlib.Core.Option.{Option, none, some}
 use lib.Dec.{T}
 use lib.IntN.{ℤ, pos, negsuc}
-use lib.Signed.{leZ, ltZ, ltZ-no, ≤ℤ-refl, _≤ℤ_}
-use lib.ListN.{getD, drop}
+use lib.Signed.{leZ, ltZ, ltZ-no, ≤ℤ-refl}
 use Rattle.bits.specs.Parsed.{Placed}
-use Rattle.bits.proofs.Always.{All, IfSome}
-use Rattle.standard.specs.Tree.{Kind, lfe, bed, isf, dynamic, kindCode, isDynamic, Position, GainWord, level, copied, PositionWord, absolute, moved, Render, default, kept, given, Update, inactive, active, Object, Tree, kindsOf}
+use Rattle.bits.proofs.Always.{All}
+use Rattle.standard.specs.Tree.{Kind, lfe, bed, isf, dynamic, kindCode, isDynamic, Position, GainWord, level, copied, PositionWord, absolute, moved, Render, default, kept, given, Update, inactive, active}
 use Rattle.standard.specs.Updates.{silence}
-use Rattle.standard.specs.Rows.{Row, Picture, State, defaultPicture, noRow, is, isSilent}
-use Rattle.standard.specs.Marks.{settled, rowMark}
-use Rattle.standard.specs.Meaning.{orBefore, copiedGain, gainSaid, newGain, clamp, stepped, positionSaid, newPosition, newPicture, rowPicture, updated, objectRows, allRows, gainOf, defaultRow, heldRow, startRows, frameRows, lastRow, lastRows}
-use Rattle.standard.specs.Tables.{every, between, isFlag, isFull, markForm, gainForm, positionForm, positionTests, sizeForm, zoneForm, pictureForm, pictureTests, isDefault, activeForm, fixedForm, shownTests, shownForm, rowForm, allForm}
-use Rattle.standard.proofs.Small.{and-left, and-right, both, number-is, Pairs, last-all}
-use Rattle.standard.proofs.Starts.{start-each}
-use Rattle.standard.proofs.MarkLaws.{settled-form, row-mark-form, doubted-form}
-use Rattle.standard.proofs.FirstBlock.{FirstIn, ObjectForm, TreeForm}
-use Rattle.standard.proofs.Payload.{InTree}
-use Rattle.standard.proofs.Words.{IfSaid, GainOk, PriorityOk, PositionOk, ZoneOk, SizeOk, FlagOk, RenderOk, UpdateOk, WordsOk}
+use Rattle.standard.specs.Rows.{Row, Picture, defaultPicture, is, isSilent}
+use Rattle.standard.specs.Marks.{rowMark}
+use Rattle.standard.specs.Meaning.{orBefore, copiedGain, gainSaid, newGain, clamp, stepped, positionSaid, newPosition, newPicture, rowPicture, updated}
+use Rattle.standard.specs.Tables.{every, between, isFlag, isFull, markForm, gainForm, positionForm, positionTests, sizeForm, zoneForm, pictureForm, pictureTests, isDefault, activeForm, fixedForm, shownTests, shownForm, rowForm}
+use Rattle.standard.proofs.Small.{and-left, and-right, both}
+use Rattle.standard.proofs.MarkLaws.{row-mark-form}
+use Rattle.standard.proofs.Words.{IfSaid, GainOk, PriorityOk, PositionOk, ZoneOk, SizeOk, FlagOk, RenderOk, UpdateOk}
 
 abbrev Yes : Bool → Type 0
 Yes b = b ≡ true

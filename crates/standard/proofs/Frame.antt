@@ -1,13 +1,12 @@
 -- What an accepted payload leaves in the frame tables, read back.
-use Prim.Native.Nat.{ℕ, _+_, _*_, _≤_}
-use mathlib.Core.Path.{_≡_, refl, sym, _∙_, ap}
-use mathlib.Core.List.{List, [], _∷_, _++_, map}
-use native.Mathlib.Nat.{zero-add}
+use Prim.Native.Nat.{ℕ, _+_, _*_}
+use mathlib.Core.Path.{_≡_, _∙_, ap}
+use mathlib.Core.List.{List, [], _∷_, map}
 use native.Mathlib.Omega.{arith}
-use lib.IntN.{ℤ, pos}
+use lib.IntN.{ℤ}
 use lib.ListN.{length, getD, drop, length-map}
 use Rattle.bits.proofs.Always.{All}
-use Rattle.standard.specs.Tree.{Kind, Object, Tree, kindsOf}
+use Rattle.standard.specs.Tree.{Object, Tree, kindsOf}
 use Rattle.standard.specs.Rows.{Row, State, noRow}
 use Rattle.standard.specs.Meaning.{startRows, objectRows, allRows, gainOf, frameRows}
 use Rattle.standard.specs.Tables.{rowsNumbers, rowsOf, byBlock, timingsOf}

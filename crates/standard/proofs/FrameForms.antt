@@ -1,6 +1,6 @@
 -- A payload makes of retained rows in form start rows to be shown, and block rows and retained rows in form.
 use mathlib.Core.Path.{_≡_, refl}
-use mathlib.Core.Bool.{true, _&&_}
+use mathlib.Core.Bool.{true}
 use mathlib.Core.List.{List, [], _∷_, map}
 use lib.IntN.{ℤ, pos}
 use lib.ListN.{getD, drop}
@@ -16,7 +16,7 @@ use Rattle.standard.proofs.MarkLaws.{settled-form, doubted-form}
 use Rattle.standard.proofs.FirstBlock.{TreeForm}
 use Rattle.standard.proofs.Payload.{InTree}
 use Rattle.standard.proofs.Words.{UpdateOk, WordsOk}
-use Rattle.standard.proofs.Forms.{RowOk, ShownOk, Facts, shown-facts, facts-shown, row-shown, row-after, zero-form, default-form, code-form, default-fixed}
+use Rattle.standard.proofs.Forms.{RowOk, ShownOk, shown-facts, facts-shown, row-shown, row-after, zero-form, default-form, code-form, default-fixed}
 
 -- Start rows
 

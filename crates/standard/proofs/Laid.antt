@@ -1,12 +1,11 @@
 -- What is laid out in a table is read back: rows, timings and the retained state.
-use Prim.Native.Nat.{ℕ, zero, suc, _+_, _*_, _-_, _≤_, _<_}
+use Prim.Native.Nat.{ℕ, zero, suc, _+_, _*_, _≤_, _<_}
 use mathlib.Core.Path.{_≡_, refl, sym, _∙_, ap}
-use mathlib.Core.Bool.{true}
 use mathlib.Core.List.{List, [], _∷_, _++_, append-assoc}
 use native.Mathlib.Omega.{arith}
 use native.Mathlib.Nat.{zero-mul}
-use lib.IntN.{ℤ, pos}
-use lib.ListN.{length, getD, take, drop, replicate, length-append, length-drop, length-replicate}
+use lib.IntN.{ℤ}
+use lib.ListN.{length, getD, take, drop, length-append, length-drop, length-replicate}
 use lib.Seq.{drop-append-add}
 use Rattle.standard.specs.Numbers.{rowWidth, objectLimit, retainedHead, retainedLength}
 use Rattle.standard.specs.Tree.{Timing}

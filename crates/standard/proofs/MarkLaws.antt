@@ -1,13 +1,13 @@
 -- The laws of marks. What a mark is, the other proofs know by these alone.
 use Prim.Native.Nat.{ℕ}
-use mathlib.Core.Path.{_≡_, refl, sym, _∙_}
-use mathlib.Core.Bool.{Bool, true, false, cond, _&&_, _||_, false≢true}
+use mathlib.Core.Path.{_≡_, refl}
+use mathlib.Core.Bool.{Bool, true, false, cond, _&&_, _||_}
 use native.Mathlib.Omega.{arith}
-use lib.IntN.{ℤ, pos}
-use Rattle.standard.specs.Tree.{Kind, isDynamic, Render, kept}
-use Rattle.standard.specs.Rows.{Picture, Group, itsPosition, itsZone, itsSize, itsScreen, itsLock, part, is}
+use lib.IntN.{ℤ}
+use Rattle.standard.specs.Tree.{Kind, isDynamic, Render}
+use Rattle.standard.specs.Rows.{Group, itsPosition, itsZone, itsSize, itsScreen, itsLock, is}
 use Rattle.standard.specs.Marks.{settled, unsettled, marked, doubted, settles, settlesAll, newMark, rowMark}
-use Rattle.standard.specs.Tables.{isFlag, markForm}
+use Rattle.standard.specs.Tables.{markForm}
 use Rattle.standard.proofs.Small.{and-left, and-right}
 
 pub settles-each : (r : Render) → settlesAll r ≡ true → (g : Group) → settles g r ≡ true

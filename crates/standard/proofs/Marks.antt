@@ -1,5 +1,4 @@
 -- The mark rules of demand 3 on states: nothing is unsettled without a gap, and active first blocks settle a payload.
-use Prim.Native.Nat.{ℕ, _+_}
 use mathlib.Core.Path.{_≡_, refl, _∙_, ap}
 use mathlib.Core.Bool.{Bool, true, false, cond, not, _&&_, _||_, false≢true}
 use mathlib.Core.List.{List, [], _∷_, _++_, map}

@@ -1,11 +1,11 @@
 -- What every object of a payload has, every accepted payload's tree has.
 use Prim.Native.Nat.{ℕ, zero, suc}
 use mathlib.Core.Bool.{Bool, true, false, cond}
-use mathlib.Core.List.{List, [], _∷_}
+use mathlib.Core.List.{List}
 use mathlib.Core.Option.{Option, none, some}
 use lib.Dec.{eqb, leb}
 use lib.ListN.{length}
-use Rattle.bits.specs.Parsed.{Parsed, got, refused, Parser, _>>=_, _>>_}
+use Rattle.bits.specs.Parsed.{refused, _>>=_}
 use Rattle.bits.proofs.Always.{Ok, Always, All, IfSome, bind, after, next, mapped-such, choose, given, none-given, inside, at-each, anything}
 use Rattle.standard.specs.Numbers.{payloadLimit, size, alone}
 use Rattle.standard.specs.Tree.{Kind, Object, Tree}

@@ -6,8 +6,7 @@ use mathlib.Core.List.{List}
 use lib.Dec.{leb}
 use lib.IntN.{ℤ}
 use lib.ListN.{length}
-use Rattle.bits.specs.Parsed.{Refusal, Parsed, got, refused}
-use Rattle.bits.proofs.Always.{Ok}
+use Rattle.bits.specs.Parsed.{Parsed, got, refused}
 use Rattle.standard.specs.Numbers.{payloadLimit, accepted}
 use Rattle.standard.specs.Numbers as number
 use Rattle.standard.specs.Tree.{Tree}

@@ -1,22 +1,20 @@
 -- Every start and block row that decode writes from a table in form passes the test of a row to be shown: 6 never meets a used row.
-use Prim.Native.Nat.{ℕ, _+_, _*_, _≤_, _<_}
-use mathlib.Core.Path.{_≡_, refl, sym, _∙_, ap}
-use mathlib.Core.Bool.{true, cond}
+use Prim.Native.Nat.{ℕ, _+_, _*_, _<_}
+use mathlib.Core.Path.{_≡_, refl}
 use mathlib.Core.List.{List, [], _∷_, _++_}
 use native.Mathlib.Nat.{mul-zero}
 use native.Mathlib.Omega.{arith}
-use lib.Dec.{leb}
 use lib.IntN.{ℤ}
-use lib.ListN.{length, getD, drop, length-append}
+use lib.ListN.{length, drop, length-append}
 use borrow.Author.Tests.{le-leb}
 use Rattle.bits.specs.Parsed.{Refusal}
 use Rattle.bits.proofs.Always.{All, all-to}
 use Rattle.standard.specs.Numbers.{rowWidth, accepted}
 use Rattle.standard.specs.Tree.{Kind, Tree, kindsOf}
 use Rattle.standard.specs.Rows.{Row, State, noRow}
-use Rattle.standard.specs.Meaning.{startRows, frameRows}
-use Rattle.standard.specs.Tables.{rowsNumbers, shownForm, rowOf, stateOf}
-use Rattle.standard.specs.Calls.{Lent, Done, over, accept, decline, decode, rowPart, rowNumber}
+use Rattle.standard.specs.Meaning.{startRows}
+use Rattle.standard.specs.Tables.{rowsNumbers, stateOf}
+use Rattle.standard.specs.Calls.{Lent, Done, over, accept, decline, decode, rowNumber}
 use Rattle.standard.specs.Events.{Beside, lend}
 use Rattle.standard.proofs.Small.{Pairs}
 use Rattle.standard.proofs.Blocks.{all-at}

@@ -1,13 +1,13 @@
 -- A property of start rows, from the default rows and the retained rows.
-use Prim.Native.Nat.{ℕ, suc}
+use Prim.Native.Nat.{suc}
 use mathlib.Core.Path.{_≡_, refl, sym, ap}
-use mathlib.Core.Bool.{Bool, true, false, cond, _&&_, false≢true}
+use mathlib.Core.Bool.{Bool, true, false, cond, false≢true}
 use mathlib.Core.List.{List, [], _∷_, map}
-use lib.IntN.{ℤ, pos}
-use lib.ListN.{length, getD, drop}
+use lib.IntN.{ℤ}
+use lib.ListN.{length}
 use Rattle.bits.proofs.Always.{All}
 use Rattle.standard.specs.Tree.{Kind, kindCode}
-use Rattle.standard.specs.Rows.{Row, State, noRow, is}
+use Rattle.standard.specs.Rows.{Row, State, is}
 use Rattle.standard.specs.Meaning.{defaultRow, heldRow, sameKinds, startRows}
 use Rattle.standard.proofs.Small.{and-left, and-right, Pairs}
 

@@ -1,6 +1,6 @@
 -- A retained table in form stands for a state, and the calls do to the table what the definitions do to the state.
 use Prim.Native.Nat.{ℕ, _≤_}
-use mathlib.Core.Path.{_≡_, refl, sym, _∙_, ap}
+use mathlib.Core.Path.{_≡_, refl, _∙_, ap}
 use mathlib.Core.Bool.{Bool, true, false, cond, _&&_, false≢true}
 use mathlib.Core.List.{List, [], _∷_}
 use native.Mathlib.Omega.{arith}
@@ -16,7 +16,7 @@ use Rattle.standard.specs.Syntax.{syntax}
 use Rattle.standard.specs.Rows.{State, fresh}
 use Rattle.standard.specs.Meaning.{retain, retainIf, taken, decoded, gapped}
 use Rattle.standard.specs.Tables.{between, isFlag, rowsNumbers, countOf, stateOf, stateNumbers, allForm, inForm}
-use Rattle.standard.specs.Calls.{Lent, Done, over, unchanged, hasRoom, accept, decline, settle, decode, reset, gap}
+use Rattle.standard.specs.Calls.{Done, over, unchanged, hasRoom, accept, decline, settle, decode, reset, gap}
 use Rattle.standard.specs.Events.{Event, resets, heard, missed, first, second, run, Beside, lend, firstCall, secondCall}
 use Rattle.standard.proofs.Small.{and-left, and-right, both}
 use Rattle.standard.proofs.Frames.{last-rows-length}

@@ -2,9 +2,9 @@
 use Prim.Native.Nat.{ℕ, zero, suc, _≤_, _<_, min}
 use mathlib.Core.Path.{_≡_, refl, _∙_, ap}
 use mathlib.Core.Bool.{Bool, true, false, cond, _&&_}
-use mathlib.Core.List.{List, [], _∷_}
+use mathlib.Core.List.{List}
 use mathlib.Core.Logic.{_≢_}
-use mathlib.Core.Option.{Option, none, some}
+use mathlib.Core.Option.{Option}
 use native.Mathlib.Omega.{arith}
 use lib.Dec.{leb, eqb, leb·zero}
 use lib.IntN.{ℤ, pos, negsuc, negℤ}
@@ -14,7 +14,7 @@ use Rattle.bits.specs.Parsed.{Placed}
 use Rattle.bits.proofs.Always.{Ok, All, Always, IfSome, OfWord, bind, after, next, mapped, mapped-such, choose, given, none-given, repeated, required, if-some, at-place}
 use Rattle.bits.proofs.Fields.{read-lt}
 use Rattle.standard.specs.Contexts as context
-use Rattle.standard.specs.Tree.{Kind, isDynamic, Position, Zone, Size, GainWord, level, copied, PositionWord, absolute, moved, Basic, Groups, Render, default, kept, Update, inactive, active, Object}
+use Rattle.standard.specs.Tree.{Kind, isDynamic, Zone, Size, GainWord, level, copied, PositionWord, absolute, moved, Basic, Groups, Render, default, kept, Update, inactive, active, Object}
 use Rattle.standard.specs.Updates.{decibels, silence, gainWord, priorityWord, basic, differential, absolutely, positionWord, bit, zoneWord, sized, sizeWord, screenWord, groups, render, activeUpdate, update, object}
 use Rattle.standard.specs.Meaning.{taken}
 use Rattle.standard.specs.Tables.{between, isFlag, gainForm, positionForm, positionTests, sizeForm, zoneForm}

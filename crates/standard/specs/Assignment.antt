@@ -1,6 +1,6 @@
 -- Document 01, "Reading order", from the version to the program assignment: the kinds of a payload's objects.
 use Prim.Native.Nat.{ℕ, _+_, _*_, _-_, _/_}
-use mathlib.Core.Bool.{Bool, cond}
+use mathlib.Core.Bool.{cond}
 use mathlib.Core.List.{List, [], _∷_, _++_}
 use lib.Dec.{leb, eqb}
 use lib.ListN.{length, getD, replicate}

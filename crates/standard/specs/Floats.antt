@@ -1,7 +1,7 @@
 -- The f32 numbers that are handed back: the toolchain's IEEE definitions.
 use Prim.Native.Nat.{ℕ}
 use mathlib.Core.Bool.{true, false}
-use lib.IntN.{ℤ, pos, negsuc}
+use lib.IntN.{ℤ, pos}
 use lib.Ieee.{Float, fin, binary32, div, ofInt}
 
 -- 0

@@ -1,10 +1,9 @@
 -- Document 01, "Marks and doubt": what settles a group of the picture, and what a mark says.
-use Prim.Native.Nat.{ℕ}
 use mathlib.Core.Bool.{Bool, true, false, cond, _&&_}
 use mathlib.Core.Option.{Option, none, some}
 use lib.IntN.{ℤ, pos}
 use Rattle.bits.specs.Parsed.{Placed}
-use Rattle.standard.specs.Tree.{Kind, isDynamic, PositionWord, absolute, moved, Groups, Render, default, kept, given}
+use Rattle.standard.specs.Tree.{Kind, isDynamic, PositionWord, absolute, moved, Render, default, kept, given}
 use Rattle.standard.specs.Rows.{Group, itsPosition, itsZone, itsSize, itsScreen, itsLock, is}
 
 -- the marks of a settled and of an unsettled picture

@@ -1,7 +1,6 @@
 -- Document 01, "Floats": what is shown of a row.
-use Prim.Native.Nat.{ℕ}
 use mathlib.Core.Bool.{cond}
-use lib.IntN.{ℤ, pos}
+use lib.IntN.{ℤ}
 use lib.Ieee.{Float, binary32, ofInt}
 use Rattle.standard.specs.Floats.{nought, one, minusOne, ratio}
 use Rattle.standard.specs.Rows.{Row, is, isSilent}

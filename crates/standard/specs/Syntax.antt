@@ -5,7 +5,7 @@ use mathlib.Core.List.{List, [], _∷_}
 use mathlib.Core.Option.{Option, none, some}
 use lib.Dec.{leb, eqb}
 use lib.ListN.{length, getD}
-use Rattle.bits.specs.Parsed.{Parsed, got, refused, Parser, _>>=_, _>>_, mapP, pure, refuse, within, times, each, here, theEnd, goTo, require, truncated, invalid, limit, unsupported}
+use Rattle.bits.specs.Parsed.{Parsed, Parser, _>>=_, _>>_, mapP, pure, refuse, within, times, each, here, theEnd, goTo, require, truncated, invalid, limit, unsupported}
 use Rattle.bits.specs.Reads.{read, flag, skip, padding, variableBits}
 use Rattle.standard.specs.Numbers.{elementLimit}
 use Rattle.standard.specs.Tree.{Kind, Timing, Tree}

@@ -1,14 +1,14 @@
 -- Document 01, "Reading order", from "Then object by object": what is said of one object in one block.
-use Prim.Native.Nat.{ℕ, _+_, min}
+use Prim.Native.Nat.{ℕ, min}
 use mathlib.Core.Bool.{Bool, true, false, cond}
-use mathlib.Core.List.{List, _∷_}
-use mathlib.Core.Option.{Option, none, some}
+use mathlib.Core.List.{_∷_}
+use mathlib.Core.Option.{none, some}
 use lib.Dec.{leb, eqb}
 use lib.IntN.{ℤ, pos, negsuc, negℤ, subℕ}
 use Rattle.bits.specs.Bits.{isSet}
-use Rattle.bits.specs.Parsed.{Parser, _>>=_, _>>_, mapP, pure, refuse, times, optional, here, require, Placed, placedAt, placed, invalid}
+use Rattle.bits.specs.Parsed.{Parser, _>>=_, _>>_, mapP, pure, refuse, times, optional, here, require, placedAt, placed, invalid}
 use Rattle.bits.specs.Reads.{read, flag, readSigned}
-use Rattle.standard.specs.Tree.{Kind, isDynamic, Position, Zone, Size, GainWord, level, copied, PositionWord, absolute, moved, Basic, Groups, Render, default, kept, given, Update, inactive, active, Object}
+use Rattle.standard.specs.Tree.{Kind, isDynamic, Zone, Size, GainWord, level, copied, PositionWord, absolute, moved, Basic, Groups, Render, default, kept, given, Update, inactive, active, Object}
 use Rattle.standard.specs.Assignment.{skipBytes}
 use Rattle.standard.specs.Contexts as context
 

@@ -1,8 +1,9 @@
 //! One payload after another through the Rust decoder, answered in document 01's numbers.
 
 use crate::oamd::{OamdDecoder, OamdFrame, OamdParseError};
+use crate::orders::{self, Order};
 pub use crate::row::Row;
-use crate::row::{kind_number, rows};
+use crate::row::{kind_and_state, kind_number, rows};
 use crate::{context, notes, oamd_noting, place};
 
 pub const TRUNCATED: u8 = 1;
@@ -58,6 +59,11 @@ impl Oracle {
     pub fn retained(&self) -> Vec<Row> {
         rows(&self.decoder.kinds, &self.decoder.objects)
     }
+
+    /// Retains rows in form, whatever was decoded before.
+    pub fn plant(&mut self, rows: &[Row]) {
+        (self.decoder.kinds, self.decoder.objects) = rows.iter().map(kind_and_state).unzip();
+    }
 }
 
 fn numbers(frame: &OamdFrame) -> Frame {
@@ -92,6 +98,25 @@ fn refusal(error: &OamdParseError, payload: &[u8]) -> Refusal {
         context,
         place,
     }
+}
+
+/// x, y, z, width, depth, height and priority as the Rust holds them, and the gain.
+pub fn shown_floats(row: &[i16]) -> ([f32; 7], Option<f32>) {
+    let row: Row = row[..14].try_into().expect("a whole row");
+    let (_, state) = kind_and_state(&row);
+    let ([x, y, z], [width, depth, height]) = (state.position, state.size);
+    (
+        [x, y, z, width, depth, height, state.priority],
+        state.gain_db,
+    )
+}
+
+/// What an accepted payload orders, object by object, block by block.
+pub fn orders_of(payload: &[u8]) -> Vec<Order> {
+    notes::take();
+    let noted = oamd_noting::OamdDecoder::default().decode(payload);
+    assert!(noted.is_ok(), "both copies of the decoder accept alike");
+    orders::orders(&notes::take(), payload)
 }
 
 /// What a refused payload made the noting decoder read.

@@ -12,15 +12,21 @@ mod renderer_rules;
 
 pub mod answer;
 pub mod context;
+pub mod form;
 pub mod journal;
+pub mod listener;
+pub mod marks;
 mod notes;
+pub mod orders;
 mod place;
 mod row;
+pub mod tables;
 pub mod timing;
 
 pub mod aim;
 mod assignment;
 mod bits;
+pub mod fixed;
 pub mod generator;
 mod object_element;
 mod payload;

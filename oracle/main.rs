@@ -20,6 +20,9 @@
 //! `generate SEED COUNT [gaps] [short]`: writes a journal with COUNT payloads in sequences, a reset
 //!     before each; gaps: with gap notices; short: at most 40 objects, and no very long payload.
 //!
+//! `list SEED`: writes the fixed list that the program `replay` runs; it fails if a reachable pair of
+//!     number and context is not in it. docs/notes/replay-list.md has its format.
+//!
 //! `count SEED COUNT`: counts the answers to such a journal by number and context. It fails if an
 //!     aim misses, if a reachable pair is not seen, or if another one is.
 
@@ -29,9 +32,10 @@ use std::io::{self, BufWriter, Read, Write};
 use std::process::ExitCode;
 
 mod count;
+mod fixed_list;
 
-const USAGE: &str =
-    "usage: oracle journal | timing | generate SEED COUNT [gaps] [short] | count SEED COUNT";
+const USAGE: &str = "usage: oracle journal | timing | generate SEED COUNT [gaps] [short] | \
+    list SEED | count SEED COUNT";
 
 fn main() -> ExitCode {
     let arguments: Vec<String> = std::env::args().skip(1).collect();
@@ -41,6 +45,7 @@ fn main() -> ExitCode {
         ["journal"] => answer_journal(&mut out),
         ["timing"] => answer_timings(&mut out),
         ["generate", seed, count, ref options @ ..] => generate(seed, count, options, &mut out),
+        ["list", seed] => fixed_list::write(number(seed), &mut out),
         ["count", seed, count] => count::count(number(seed), number(count) as usize, &mut out),
         _ => Err(io::Error::other(USAGE)),
     };

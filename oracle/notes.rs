@@ -14,6 +14,16 @@ impl Note {
     pub fn is(&self, context: u8) -> bool {
         self.context == context::string(context)
     }
+
+    pub fn context(&self) -> u8 {
+        context::number(self.context)
+    }
+
+    /// The number that was read, of a field and not of a skipped run.
+    pub fn value(&self, payload: &[u8]) -> u32 {
+        let bit = |place: usize| u32::from(payload[place / 8] >> (7 - place % 8) & 1);
+        (self.place..self.place + self.width).fold(0, |value, place| value << 1 | bit(place))
+    }
 }
 
 thread_local! {

@@ -6,6 +6,14 @@ use crate::oamd::{OamdObjectKind, OamdObjectState};
 pub type Row = [i16; 14];
 
 pub const SILENCE: i16 = -128;
+pub const DYNAMIC: i16 = 3;
+
+const KINDS: [OamdObjectKind; 4] = [
+    OamdObjectKind::Lfe,
+    OamdObjectKind::Bed,
+    OamdObjectKind::Isf,
+    OamdObjectKind::Dynamic,
+];
 
 pub fn kind_number(kind: OamdObjectKind) -> i16 {
     match kind {
@@ -49,6 +57,24 @@ fn row(kind: OamdObjectKind, state: &OamdObjectState) -> Row {
         i16::from(state.zone_constraints),
         i16::from(state.elevation_enabled),
     ]
+}
+
+/// The kind and the state that a row in form says.
+pub fn kind_and_state(row: &Row) -> (OamdObjectKind, OamdObjectState) {
+    let kind = KINDS[row[0] as usize];
+    let state = OamdObjectState {
+        active: row[1] == 1,
+        gain_db: (row[2] != SILENCE).then(|| f32::from(row[2])),
+        priority: f32::from(row[3]) / 32.0,
+        position: shown_position(kind, [row[4], row[5], row[6]]),
+        size: [row[7], row[8], row[9]].map(|size| f32::from(size) / 31.0),
+        screen_reference: row[10] == 1,
+        channel_lock: row[11] == 1,
+        zone_constraints: row[12] as u8,
+        elevation_enabled: row[13] == 1,
+        raw_position: [row[4], row[5], row[6]],
+    };
+    (kind, state)
 }
 
 /// Document 01, "Floats": what a row's raw place is shown as.

@@ -177,3 +177,9 @@ module _ {A : Type 0} {P Q : A → Type 0} where
   pub all-to : (l : List A) → ((a : A) → P a → Q a) → All P l → All Q l
   all-to [] f h = tt
   all-to (a ∷ l) f h = (f a (h .0), all-to l f (h .1))
+
+module _ {A : Type 0} where
+  pub times-length : (n : ℕ) (m : Parser A) → Always (λ l. length l ≡ n) (times n m)
+  unfolding times
+  times-length zero m = given _ refl
+  times-length (suc n) m = after _ _ λ a. bind _ (times-length n m) λ l e. given _ (ap suc e)

@@ -1,9 +1,10 @@
 -- A reading that makes something of what another reads: one law for each way in which readings are put together.
 use Prim.Native.Nat.{ℕ}
-use mathlib.Core.Path.{_≡_, refl, sym}
+use mathlib.Core.Path.{_≡_, refl, sym, _∙_}
 use mathlib.Core.Bool.{Bool, true, false, cond}
 use mathlib.Core.List.{List}
-use Rattle.bits.specs.Parsed.{Refusal, Parsed, got, refused, Parser, andThen, mapParsed, _>>=_, _>>_, mapP, pure, refuse, within, here, placed}
+use mathlib.Core.Option.{Option, none, some}
+use Rattle.bits.specs.Parsed.{Parsed, got, refused, Parser, andThen, mapParsed, _>>=_, _>>_, mapP, pure, optional, here, Placed, placed, Refusal, refuse, within}
 use Rattle.bits.proofs.Always.{Ok, Always, anything}
 use Rattle.bits.proofs.ParsedLaws.{map-map, placed-word}
 
@@ -80,7 +81,17 @@ module _ {A B D : Type 0} {g : B → D} where
 
 -- Words with their places
 
-module _ {A B : Type 0} (f : A → B) (m : Parser A) where
-  pub word : Makes (λ w. f (w .word)) (placed m) (mapP f m)
-  unfolding mapP
-  word = record { makes = λ s e p. sym (placed-word f m s e p) }
+module _ {A B : Type 0} {f : A → B} {m : Parser A} {n : Parser B} where
+  pub at-place : Makes f m n → Makes (λ w. f (w .word)) (placed m) n
+  at-place x = record { makes = λ s e p. x .makes s e p ∙ sym (placed-word f m s e p) }
+
+pub word : {A B : Type 0} (f : A → B) (m : Parser A) → Makes (λ w. f (w .word)) (placed m) (mapP f m)
+unfolding mapP
+word f m = at-place (record { makes = λ s e p. refl })
+
+module _ {A B : Type 0} (h : Option A → B) where
+  -- a word that a flag asks for; h is what is made of it, or of none
+  pub said : (b : Bool) {m : Parser A} {n : Parser B} → Makes (λ w. h (some w)) m n → Makes h (optional b m) (cond b n (pure (h none)))
+  unfolding optional
+  said true x = mapped some x
+  said false x = given none

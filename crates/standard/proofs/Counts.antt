@@ -8,7 +8,7 @@ use lib.Dec.{leb, eqb}
 use lib.ListN.{length, replicate, length-replicate}
 use borrow.Author.Tests.{leb-true, eqb-true}
 use Rattle.bits.specs.Parsed.{Parser, _>>=_, times}
-use Rattle.bits.proofs.Always.{Ok, All, Always, bind, after, next, mapped, choose, given, required, weaken, at-each, as-many, together, all-to}
+use Rattle.bits.proofs.Always.{Ok, All, Always, bind, after, next, mapped, choose, given, required, weaken, at-each, as-many, together, all-to, times-length}
 use Rattle.bits.proofs.Fields.{read-lt}
 use Rattle.standard.specs.Numbers.{objectLimit, blockLimit}
 use Rattle.standard.specs.Tree.{Kind, lfe, dynamic, Object, Tree}
@@ -49,12 +49,6 @@ kinds-counted : Always Some (objectCount >>= assignment)
 kinds-counted = bind _ count-form λ n h. weaken (assigned n (h .0)) λ ks e. let l = h .0 in let u = h .1 in (omega arith, omega arith)
 
 -- Blocks
-
-module _ {A : Type 0} where
-  times-length : (n : ℕ) (m : Parser A) → Always (λ l. length l ≡ n) (times n m)
-  unfolding times
-  times-length zero m = given _ refl
-  times-length (suc n) m = after _ _ λ a. bind _ (times-length n m) λ l e. given _ (ap suc e)
 
 pub object-length : (m : ℕ) (k : Kind) → Always (λ o. length (o .updates) ≡ suc m) (object m k)
 unfolding object

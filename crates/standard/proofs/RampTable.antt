@@ -45,7 +45,7 @@ ramp-le =
     (choose (eqb code 2) (given _ (omega arith))
     (after _ _ λ indexed. choose indexed (mapped _ _ duration-le) (weaken (read-lt 11 _) λ v h. omega arith))))
 
-offset-le : Always (λ v. v ≤ 31) sampleOffset
+pub offset-le : Always (λ v. v ≤ 31) sampleOffset
 unfolding sampleOffset sampleOffsets
 offset-le =
     after _ _ λ at. after _ _ λ code.

@@ -1,0 +1,10 @@
+pub mod Places
+pub mod Columns
+pub mod Parses
+pub mod Bridge
+pub mod Transposed
+pub mod Walked
+pub mod Filling
+pub mod Timed
+pub mod Turns
+pub mod Parts

@@ -1,0 +1,79 @@
+-- `objects::parse_object_element` meets its contract.
+use Prim.Native.Nat.{_*_, _≤_}
+use mathlib.Core.Path.{_≡_, refl, sym}
+use native.Mathlib.Omega.{arith}
+use borrow.Author.Needs.{needs}
+use Rattle.bits.specs.Parsed.{andThen, mapParsed, mapP}
+use Rattle.bits.specs.declared.Number.{Number}
+use Rattle.bits.proofs.Laws.{gives}
+use Rattle.standard.specs.Numbers.{rowWidth, blocksLength, timingsLength}
+use Rattle.standard.specs.Syntax.{objectElement}
+use Rattle.standard.specs.Tables.{rowsOf}
+use Rattle.objects.specs.Fills.{Filling}
+use Rattle.objects.specs.Element.{timedAs}
+use Rattle.objects.specs.Walk.{kindsIn, objectsFrom}
+use Rattle.objects.proofs.Filling.{begin, on}
+use Rattle.objects.proofs.Turns.{kinds-length}
+use Rattle.objects.proofs.Parts.{few-timed, fit, left, leftBy, element-read, element-left, objects-left}
+use Rattle.objects.proofs.parse_object_element.Statement.{statement}
+use Rattle.objects.proofs.parse_object_element.Tie as tie
+
+-- what is left to read goes by what stands before the objects
+at-head : (c : tie.After-parse-block-timings) {r : Number} → c .parse-block-timings .result ≡ r →
+    let a = c .before .before .before .before .before .args in
+    let n = a .object-count in
+    let ks = kindsIn n (a .kinds .now) in
+    let t = c .parse-block-timings .last .1 .1 .1 .0 in
+    Filling timingsLength (mapParsed (leftBy (rowsOf n (a .start .now)) (a .timings .now) (a .blocks .now)) (objectElement ks (a .payload .now) (a .limit .0) (a .at .0))) (a .timings .now)
+    (andThen (timedAs t r) (λ h q. mapParsed (left (h .count) (h .table)) (objectsFrom n (h .count) (a .start .now) 0 ks (a .blocks .now) (a .payload .now) (a .limit .0) q)))
+    t
+at-head c e =
+    let room = c .before .before .before .before .before .pre in
+    on (timedAs _) _ (begin (element-read _ _ _ _ _ _ _ _ (kinds-length _ _ (room .itsKinds)) (room .few) (room .forBlocks))) (c .parse-block-timings .ensures) (omega arith) e
+
+cut-timings : tie.Need-returns
+cut-timings c = element-left _ _ (at-head (c .before .before .before .before .before) (c .before .refusal .given .1)) refl refl
+
+-- the rows fit their table
+used : (c : tie.After-block-count) →
+    let a = c .before .before .before .before .before .before .before .before .before .args in
+    c .block-count .given .0 .0 * a .object-count * rowWidth ≤ blocksLength
+unfolding mapP
+used c =
+    let h = c .before .before .before .before in
+    fit _ _ (gives (timedAs _) (few-timed _) (sym (h .parse-block-timings .ensures .same)) (c .block-count .given .1)) (h .before .before .before .before .before .pre .few)
+
+parse-objects-requires : tie.Need-parse-objects-requires
+parse-objects-requires c κs = let u = used (c .before .before) in search needs
+
+cut-objects : tie.Need-returns-2
+cut-objects c =
+    let o = c .before .before .before .before in
+    let b = o .before .before .before in
+    objects-left _ _ _ (at-head (b .before .before .before .before) (b .block-count .given .1)) (o .parse-objects .ensures) (used b) (c .before .refusal2 .given .1) refl
+
+all : tie.Need-returns-3
+all c =
+    let o = c .before .before .before .before in
+    let b = o .before .before .before in
+    objects-left _ _ _ (at-head (b .before .before .before .before) (b .block-count .given .1)) (o .parse-objects .ensures) (used b) (c .before .end .given .1) refl
+
+pub parse-object-element-spec : {M : Type 1} → statement M
+parse-object-element-spec =
+    tie.close
+    (tie.spec
+    (λ c κs. search needs)
+    (λ c. search needs)
+    (λ c. search needs)
+    (λ c. search needs)
+    parse-objects-requires
+    (λ c. search needs)
+    (λ c. search needs)
+    (λ c. search needs)
+    cut-timings
+    (λ c. search needs)
+    (λ c. search needs)
+    cut-objects
+    (λ c. search needs)
+    (λ c. search needs)
+    all)

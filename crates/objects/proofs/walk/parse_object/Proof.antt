@@ -1,0 +1,96 @@
+-- `objects::walk::parse_object` meets its contract: what is left to read is the later blocks, after the row so far and over the table so far.
+use Prim.Native.Nat.{_+_, _*_, _-_, _≤_}
+use mathlib.Core.Path.{_≡_, _∙_}
+use native.Mathlib.Omega.{arith}
+use borrow.Author.Needs.{needs}
+use lib.Dec.{eqb}
+use mir.Syntax.{w16}
+use mir.Facts.{toZ-ofZ}
+use Rattle.bits.specs.Parsed.{mapParsed}
+use Rattle.standard.specs.Numbers.{rowWidth}
+use Rattle.standard.specs.Updates.{update}
+use Rattle.standard.specs.Meaning.{updated}
+use Rattle.rows.specs.Say.{rowSaid}
+use Rattle.update.specs.Kinds.{kindOf}
+use Rattle.update.specs.Say.{saidRow}
+use Rattle.objects.specs.Fills.{Filling}
+use Rattle.objects.specs.Walk.{place, gainBefore, columnFrom}
+use Rattle.objects.proofs.Places.{within}
+use Rattle.objects.proofs.Filling.{begin, to}
+use Rattle.objects.proofs.Turns.{blocks-done, block-read, put-within}
+use Rattle.objects.proofs.walk.parse_object.Statement.{statement}
+use Rattle.objects.proofs.walk.parse_object.Tie as tie
+
+abbrev Inv-loop : tie.InvT-loop
+Inv-loop payload limit kind n m object blocks₀ row₀ place₀ block₀ blocks row place block =
+    (block ≤ m) × Filling (m * n * rowWidth) (columnFrom n object (kindOf kind) m 0 (rowSaid row₀) blocks₀ payload (limit .0) (place₀ .0)) blocks₀ (columnFrom n object (kindOf kind) (m - block) block (rowSaid row) blocks payload (limit .0) (place .0)) blocks
+
+abbrev μ-loop : tie.MeasureT-loop
+μ-loop payload limit kind n m object blocks₀ row₀ place₀ block₀ blocks row place block = m - block
+
+loop-holds : tie.Need-loop-holds Inv-loop μ-loop
+loop-holds c =
+    let m = c .before .args .block-count in
+    let k : m - 0 ≡ m = omega arith in
+    (omega arith, begin (rw k))
+
+-- the row of this block fits the table
+room : (c : tie.In-loop Inv-loop μ-loop) →
+    let a = c .before .before .before .args in
+    place (a .object-count) (c .before .loop .block) (a .object) + rowWidth ≤ a .block-count * a .object-count * rowWidth
+room c = within _ _ _ _ (c .loop-test .taken) (c .before .before .before .pre .0)
+
+-- the answer is what the update makes of the row so far
+row-said : (c : tie.After-parse-update Inv-loop μ-loop) →
+    let a = c .before .before .before .before .before .before .args in
+    let l = c .before .before .before .before .loop in
+    saidRow (c .parse-update .result)
+    ≡ mapParsed (λ u. updated (kindOf (a .kind)) (gainBefore (a .object-count) (l .block) (a .object) (l .blocks)) u (rowSaid (l .row))) (update (kindOf (a .kind)) (eqb (l .block) 0) (a .payload .now) (a .limit .0) (l .place .0))
+row-said c = c .parse-update .ensures ∙ rw (toZ-ofZ {w = w16} (record { sfits = c .before .gain-before .ok }), c .before .gain-before .ensures)
+
+returns : tie.Need-returns Inv-loop μ-loop
+returns c =
+    let r = c .before .before .before in
+    let l = r .before .before .before in
+    block-read _ _ _ _ _ _ _ _ _ (l .before .loop .inv .1) (l .loop-test .taken) (row-said r) (c .before .refusal .given .1)
+
+row-place-requires : tie.Need-row-place-requires Inv-loop μ-loop
+row-place-requires c κs =
+    let l = c .before .before .before .before .before .before .before in
+    omega (arith, room l, l .before .before .before .good)
+
+put-row-requires : tie.Need-put-row-requires Inv-loop μ-loop
+put-row-requires c κs =
+    let l = c .before .before .before .before .before .before .before .before in
+    omega (arith, c .row-place .ensures, room l, l .before .loop .inv .1 .long)
+
+loop-again : tie.Need-loop-again Inv-loop μ-loop
+loop-again c =
+    let s = c .before .before .before .before .before in
+    let r = s .before .before in
+    let l = r .before .before .before in
+    (omega arith, rw (c .before .put-row .ensures, c .before .before .row-place .ensures) (put-within _ _ (block-read _ _ _ _ _ _ _ _ _ (l .before .loop .inv .1) (l .loop-test .taken) (row-said r) (s .state .given .1)) (room l)))
+
+returns-2 : tie.Need-returns-2 Inv-loop μ-loop
+returns-2 c = to (c .before .loop .inv .1) (blocks-done _ _ _ _ _ _ _ _ _ _ (c .loop-test .left))
+
+pub parse-object-spec : {M : Type 1} → statement M
+parse-object-spec =
+    tie.close
+    (tie.spec
+    Inv-loop
+    μ-loop
+    loop-holds
+    (λ c κs. omega (arith, room (c .before), c .before .before .loop .inv .1 .long))
+    (λ c κs. search needs)
+    (λ c. search needs)
+    (λ c. c .before .before .before .before .before .before .before .loop .inv .1 .long)
+    returns
+    (λ c. search needs)
+    row-place-requires
+    put-row-requires
+    (λ c. omega arith)
+    (λ c. omega arith)
+    loop-again
+    (λ c. c .before .loop .inv .1 .long)
+    returns-2)

@@ -1,0 +1,2 @@
+-- The proof that stands beside the functions.
+pub mod Determined

@@ -1,0 +1,138 @@
+-- One pass does what the two layers do: each pass is what standard's meaning makes of standard's rule.
+use Prim.Native.Nat.{ℕ, _/_, _%_}
+use mathlib.Core.Path.{_≡_, refl, sym, ap}
+use mathlib.Core.Bool.{Bool, true, false, cond, _&&_}
+use mathlib.Core.List.{List}
+use mathlib.Core.Option.{Option, none, some}
+use native.Mathlib.Nat.{div-div-eq-div-mul}
+use native.Mathlib.Omega.{arith}
+use lib.Dec.{eqb}
+use lib.IntN.{ℤ, pos}
+use borrow.Author.Tests.{eq-eqb, ne-eqb, eqb-true, eqb-false}
+use Rattle.bits.specs.Bits.{isSet}
+use Rattle.bits.specs.Parsed.{Parser, mapParsed, _>>=_, pure, optional, here, Placed, placed}
+use Rattle.standard.specs.Contexts as context
+use Rattle.standard.specs.Tree.{Kind, lfe, bed, isf, dynamic, isDynamic, GainWord, PositionWord, Basic, Groups, Render, default, kept, given, Update, inactive, active}
+use Rattle.standard.specs.Updates.{bit, gainWord, priorityWord, basic, positionWord, zoneWord, sizeWord, screenWord, groups, render, status, activeUpdate, update}
+use Rattle.standard.specs.Rows.{Row}
+use Rattle.standard.specs.Marks.{settled, absolutelySaid, isSome, settles, settlesAll, newMark, rowMark}
+use Rattle.standard.specs.Meaning.{orBefore, gainSaid, newGain, positionSaid, newPosition, newPicture, rowPicture, updated}
+use Rattle.update.specs.Passes.{withGain, withPriority, withPicture, withMark, placed as placedAnew, withZone, withSize, withScreen, begun, gainPass, priorityPass, levelsPass, basicPass, pastDistance, placePass, positionPass, zonePass, sizePass, screenPass, lockPass, groupsPass, renderPass, statePass, rowPass}
+use Rattle.bits.proofs.Always as always
+use Rattle.bits.proofs.Always.{Always}
+use Rattle.bits.proofs.Makes.{Makes, given as gives, at-place, choose, from-here, mapped, bind-such, bind, after, next, last, word, said}
+
+-- whether a word is there is whether it was asked for
+module _ {A : Type 0} where
+  asked : (b : Bool) (m : Parser A) → Always (λ o. isSome o ≡ b) (optional b m)
+  unfolding optional
+  asked true m = always.mapped some m (λ a. refl)
+  asked false m = always.given none refl
+
+-- Basic information
+
+module _ (g : ℤ) (flags : ℕ) (r : Row) where
+  gain-made : Makes (λ o. withGain (newGain g o (r .gain)) r) (optional (isSet 1 flags) (placed gainWord)) (gainPass g flags r)
+  unfolding gainPass newGain
+  gain-made = said _ (isSet 1 flags) (word _ gainWord)
+
+module _ (flags : ℕ) (r : Row) where
+  priority-made : Makes (λ o. withPriority (orBefore o (r .priority)) r) (optional (isSet 0 flags) (placed priorityWord)) (priorityPass flags r)
+  unfolding priorityPass
+  priority-made = said _ (isSet 0 flags) (word _ priorityWord)
+
+abbrev basicRow : ℤ → Row → Basic → Row
+basicRow g r b = withPriority (orBefore (b .priority) (r .priority)) (withGain (newGain g (b .gain) (r .gain)) r)
+
+basic-made : (g : ℤ) (r : Row) (at status : ℕ) → Makes (basicRow g r) (basic at status) (basicPass g status r)
+unfolding basic basicPass levelsPass newGain gainSaid
+basic-made g r at status =
+    choose (eqb status 0) (gives _)
+    (choose (eqb status 2) (gives _)
+    (after _ _ _ λ flags. bind _ _ (gain-made g flags r) λ v. last _ (priority-made flags _) λ n. refl))
+
+-- Render information
+
+module _ (flags : ℕ) (r : Row) where
+  -- the row that a position makes, or none
+  abbrev placedRow : Option (Placed PositionWord) → Row
+  placedRow o = placedAnew (newPosition o (r .picture .position)) (absolutelySaid o && eqb (flags % 8) 7) r
+
+  position-made : (first : Bool) → Makes placedRow (optional (isSet 3 flags) (placed (positionWord first))) (positionPass first flags r)
+  unfolding positionPass newPosition positionWord placePass pastDistance
+  position-made first = said _ (isSet 3 flags) (at-place (after _ _ _ λ d. after _ _ _ λ w. next _ (gives w)))
+
+  zone-made : Makes (λ o. withZone (orBefore o (r .picture .zone)) r) (optional (isSet 2 flags) (placed zoneWord)) (zonePass flags r)
+  unfolding zonePass
+  zone-made = said _ (isSet 2 flags) (word _ zoneWord)
+
+  size-made : Makes (λ o. withSize (orBefore o (r .picture .size)) r) (optional (isSet 1 flags) (placed sizeWord)) (sizePass flags r)
+  unfolding sizePass
+  size-made = said _ (isSet 1 flags) (word _ sizeWord)
+
+  screen-made : Makes (λ o. withScreen (orBefore o (r .picture .screen)) r) (optional (isSet 0 flags) (placed screenWord)) (screenPass flags r)
+  unfolding screenPass
+  screen-made = said _ (isSet 0 flags) (word _ screenWord)
+
+-- the three lowest bits of a number are set where it leaves 7 when divided by 8
+lowest-set : (a : Bool) (n : ℕ) → (a && isSet 2 n && isSet 1 n && isSet 0 n && true) ≡ (a && eqb (n % 8) 7)
+unfolding isSet
+lowest-set false n = refl
+lowest-set true n = go (isSet 2 n) (isSet 1 n) (isSet 0 n) refl refl refl
+  where
+    go : (x y z : Bool) → isSet 2 n ≡ x → isSet 1 n ≡ y → isSet 0 n ≡ z → (x && y && z && true) ≡ eqb (n % 8) 7
+    go true true true p q r =
+        sym (eq-eqb (n % 8) 7 (omega (arith, eqb-true (n / 4 % 2) 1 p, eqb-true (n / 2 % 2) 1 q, eqb-true (n / 1 % 2) 1 r, div-div-eq-div-mul n 2 2, div-div-eq-div-mul n 4 2)))
+    go true true false p q r = sym (ne-eqb (n % 8) 7 (omega (arith, eqb-false (n / 1 % 2) 1 r)))
+    go true false z p q r = sym (ne-eqb (n % 8) 7 (omega (arith, eqb-false (n / 2 % 2) 1 q)))
+    go false y z p q r = sym (ne-eqb (n % 8) 7 (omega (arith, eqb-false (n / 4 % 2) 1 p)))
+
+abbrev renderRow : Row → Render → Row
+renderRow r n = withMark (newMark n (r .mark)) (withPicture (newPicture n (r .picture)) r)
+
+module _ (first : Bool) (r : Row) where
+  groups-made : (flags : ℕ) → Makes (λ w. renderRow r (given w)) (groups first flags) (groupsPass first flags r)
+  unfolding groups groupsPass lockPass newPicture newMark settlesAll settles
+  groups-made flags =
+      bind _ _ (position-made flags r first) λ p.
+      bind-such _ _ (asked _ _) (zone-made flags _) λ z hz.
+      bind-such _ _ (asked _ _) (size-made flags _) λ n hn.
+      bind-such _ _ (asked _ _) (screen-made flags _) λ s hs.
+      last _ (word _ _) λ l. rw (hz, hn, hs, lowest-set (absolutelySaid p) flags)
+
+  render-made : (at status : ℕ) → Makes (renderRow r) (render first at status) (renderPass first status r)
+  unfolding render renderPass newPicture newMark settlesAll settles
+  render-made at status =
+      choose (eqb status 0) (gives _)
+      (choose (eqb status 2) (gives _)
+      (after _ _ _ λ flags. mapped given (groups-made flags)))
+
+-- One object in one block
+
+module _ (first : Bool) (g : ℤ) (r : Row) where
+  rendered : (k : Kind) (b : Basic) →
+      let r₁ = basicRow g (begun k false r) b in
+      Makes (λ n. updated k g (active b n) r)
+      (cond (isDynamic k) (here >>= λ at. status first context.render-info-status >>= λ s. render first at s) (pure kept))
+      (cond (isDynamic k) (status first context.render-info-status >>= λ s. renderPass first s r₁) (pure r₁))
+  unfolding updated rowPicture rowMark bit
+  rendered lfe b = gives kept
+  rendered bed b = gives kept
+  rendered isf b = gives kept
+  rendered dynamic b = from-here _ λ at. after _ _ _ λ s. render-made first _ at s
+
+  state-made : (k : Kind) (at : ℕ) (off : Bool) →
+      Makes (λ u. updated k g u r) (cond off (pure (inactive at)) (activeUpdate k first)) (statePass k first off g (begun k off r))
+  unfolding activeUpdate statePass updated rowMark newMark settlesAll settles bit
+  state-made k at true = gives (inactive at)
+  state-made k at false =
+      from-here _ λ at. after _ _ _ λ s. bind _ _ (basic-made g _ at s) λ b. last (active b) (rendered k b) λ n. refl
+
+  row-made : (k : Kind) → Makes (λ u. updated k g u r) (update k first) (rowPass k first g r)
+  unfolding update rowPass
+  row-made k = from-here _ λ at. after _ _ _ λ off. bind _ _ (state-made k at off) λ u. next _ (gives u)
+
+-- the row that an update makes, read and applied at once
+pub row-fused : (k : Kind) (first : Bool) (g : ℤ) (r : Row) (s : List ℕ) (e p : ℕ) →
+    rowPass k first g r s e p ≡ mapParsed (λ u. updated k g u r) (update k first s e p)
+row-fused k first g r = row-made first g r k .makes

@@ -1,0 +1,4 @@
+pub mod KindLaws
+pub mod Numbers
+pub mod Steps
+pub mod Bridge

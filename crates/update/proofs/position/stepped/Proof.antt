@@ -1,0 +1,32 @@
+-- `update::position::stepped` meets its contract.
+use borrow.Author.Needs.{needs}
+use Rattle.standard.specs.Meaning.{stepped}
+use Rattle.update.proofs.Numbers.{back}
+use Rattle.update.proofs.position.stepped.Statement.{statement}
+use Rattle.update.proofs.position.stepped.Tie as tie
+
+returns : tie.Need-returns
+unfolding stepped
+returns c =
+    let y = c .before .before .before in
+    let x = y .before .before .before in
+    let s = x .before .before .before in
+    let old = x .before .before .struct-told .given in
+    let steps = x .before .struct-told2 .given in
+    rw (
+      back (x .step .ok),
+      back (y .step2 .ok),
+      back (c .step3 .ok),
+      x .step .ensures,
+      y .step2 .ensures,
+      c .step3 .ensures,
+      back {z = s .args .old .x} (old .0 .1),
+      back {z = s .args .old .y} (old .1 .0 .1),
+      back {z = s .args .old .z} (old .1 .1 .0 .1),
+      back {z = s .args .steps .x} (steps .0 .1),
+      back {z = s .args .steps .y} (steps .1 .0 .1),
+      back {z = s .args .steps .z} (steps .1 .1 .0 .1),
+    )
+
+pub stepped-spec : {M : Type 1} → statement M
+stepped-spec = tie.close (tie.spec (λ c κs. search needs) (λ c κs. search needs) (λ c κs. search needs) returns)

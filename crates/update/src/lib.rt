@@ -1,0 +1,162 @@
+// One object in one block: what is read of it, applied at once to the row before.
+ghost use mathlib.Core.Path.{_≡_};
+ghost use mathlib.Core.Bool.{cond};
+ghost use Rattle.bits.specs.Parsed.{mapParsed, pure};
+ghost use Rattle.bits.specs.Say.{said, saidPassed};
+ghost use Rattle.standard.specs.Updates as standard;
+ghost use Rattle.standard.specs.Meaning.{heldRow, defaultRow, updated};
+ghost use Rattle.rows.specs.Say.{rowSaid};
+ghost use Rattle.update.specs.Kinds.{kindOf};
+ghost use Rattle.update.specs.Passes as pass;
+ghost use Rattle.update.specs.Say.{saidRow};
+
+mod basic;
+mod contexts;
+mod position;
+mod render;
+mod state;
+
+use basic::PreviousGain;
+use basic::parse_basic_info;
+use bits::BitPlace;
+use bits::Flag;
+use bits::Number;
+use bits::Passed;
+use bits::Refusal;
+use contexts::ADDITIONAL_TABLE_DATA;
+use contexts::ADDITIONAL_TABLE_DATA_FLAG;
+use contexts::ADDITIONAL_TABLE_DATA_SIZE;
+use contexts::BASIC_INFO_STATUS;
+use contexts::OBJECT_NOT_ACTIVE_FLAG;
+use contexts::RENDER_INFO_STATUS;
+use render::parse_render_info;
+use rows::row::Row;
+use state::DYNAMIC;
+use state::SETTLED;
+use state::begun;
+use state::default_picture;
+use state::silenced;
+
+pub enum Updated {
+    Row(Row, BitPlace),
+    Refused(Refusal),
+}
+
+// The row after `row`, and the place after what was read.
+pub fn parse_update(
+    payload: &[u8],
+    limit: BitPlace,
+    at: BitPlace,
+    kind: u8,
+    first: bool,
+    previous_gain: i16,
+    row: Row,
+) -> Updated
+    ensures { λ r. ⌜ saidRow r ≡ mapParsed (λ u. updated (kindOf kind) «previous_gain» u (rowSaid row)) (standard.update (kindOf kind) first (now (payload .entry)) (limit .0) (at .0)) ⌝ }
+{
+    match bits::read_flag(payload, limit, at, OBJECT_NOT_ACTIVE_FLAG) {
+        Flag::Refused(refusal) => Updated::Refused(refusal),
+        Flag::Is(inactive, at) => {
+            let row = begun(row, kind, inactive);
+            let previous = PreviousGain(previous_gain);
+            let state = parse_state(payload, limit, at, kind, first, inactive, row, previous);
+            let Updated::Row(row, at) = state else {
+                return state;
+            };
+            match skip_table_data(payload, limit, at) {
+                Passed::Refused(refusal) => Updated::Refused(refusal),
+                Passed::To(at) => Updated::Row(row, at),
+            }
+        }
+    }
+}
+
+fn parse_state(
+    payload: &[u8],
+    limit: BitPlace,
+    at: BitPlace,
+    kind: u8,
+    first: bool,
+    inactive: bool,
+    row: Row,
+    previous: PreviousGain,
+) -> Updated
+    ensures { λ r. ⌜ saidRow r ≡ pass.statePass (kindOf kind) first inactive (previous .0) (rowSaid row) (now (payload .entry)) (limit .0) (at .0) ⌝ }
+{
+    if inactive {
+        return Updated::Row(silenced(row), at);
+    }
+    match read_status(payload, limit, at, first, BASIC_INFO_STATUS) {
+        Number::Refused(refusal) => Updated::Refused(refusal),
+        Number::Value(status, at) => {
+            let levelled = parse_basic_info(payload, limit, at, status, row, previous);
+            let Updated::Row(row, at) = levelled else {
+                return levelled;
+            };
+            if kind < DYNAMIC {
+                return Updated::Row(row, at);
+            }
+            match read_status(payload, limit, at, first, RENDER_INFO_STATUS) {
+                Number::Refused(refusal) => Updated::Refused(refusal),
+                Number::Value(status, at) => {
+                    parse_render_info(payload, limit, at, status, first, row)
+                }
+            }
+        }
+    }
+}
+
+// In block 0 a status is 1, and is not read.
+fn read_status(payload: &[u8], limit: BitPlace, at: BitPlace, first: bool, context: u8) -> Number
+    ensures { λ r. ⌜ said r ≡ standard.status first context (now (payload .entry)) (limit .0) (at .0) ⌝ }
+{
+    if first {
+        return Number::Value(1, at);
+    }
+    bits::read(payload, limit, at, 2, context)
+}
+
+fn skip_table_data(payload: &[u8], limit: BitPlace, at: BitPlace) -> Passed
+    ensures { λ r. ⌜ saidPassed r ≡ standard.tableData (now (payload .entry)) (limit .0) (at .0) ⌝ }
+{
+    match bits::read_flag(payload, limit, at, ADDITIONAL_TABLE_DATA_FLAG) {
+        Flag::Refused(refusal) => Passed::Refused(refusal),
+        Flag::Is(there, at) => {
+            if !there {
+                return Passed::To(at);
+            }
+            match bits::read(payload, limit, at, 4, ADDITIONAL_TABLE_DATA_SIZE) {
+                Number::Refused(refusal) => Passed::Refused(refusal),
+                Number::Value(bytes, at) => {
+                    bits::skip(limit, at, (bytes as usize + 1) * 8, ADDITIONAL_TABLE_DATA)
+                }
+            }
+        }
+    }
+}
+
+// The row of an object that is new, or whose program has changed.
+pub fn default_row(kind: u8, doubt: i16) -> Row
+    ensures { λ r. ⌜ rowSaid r ≡ defaultRow doubt (kindOf kind) ⌝ }
+{
+    let picture = default_picture();
+    let row = Row {
+        kind: 0,
+        active: 1,
+        gain: 0,
+        priority: 32,
+        picture,
+        mark: SETTLED,
+    };
+    held_row(begun(row, kind, false), doubt)
+}
+
+// In doubt no row is settled.
+pub fn held_row(mut row: Row, doubt: i16) -> Row
+    ensures { λ r. ⌜ rowSaid r ≡ heldRow doubt (rowSaid row) ⌝ }
+{
+    if doubt != 0 {
+        row.mark = 0;
+    }
+    row
+}

@@ -1,0 +1,185 @@
+// The position of an object, absolute or by steps.
+ghost use mathlib.Core.Path.{_≡_};
+ghost use mathlib.Core.Bool.{cond};
+ghost use Prim.Native.Nat.{ℕ, _<_, min};
+ghost use lib.IntN.{pos, negℤ, _+ℤ_};
+ghost use Rattle.bits.specs.Say.{saidPassed};
+ghost use Rattle.standard.specs.Updates as standard;
+ghost use Rattle.standard.specs.Meaning as meaning;
+ghost use Rattle.rows.specs.Say.{positionSaid, rowSaid};
+ghost use Rattle.update.specs.Passes as pass;
+ghost use Rattle.update.specs.Say.{saidRow};
+use crate::Updated;
+use crate::contexts::DIFFERENTIAL_POSITION_FLAG;
+use crate::contexts::DIFFERENTIAL_X;
+use crate::contexts::DIFFERENTIAL_Y;
+use crate::contexts::DIFFERENTIAL_Z;
+use crate::contexts::DISTANCE_FACTOR_INDEX;
+use crate::contexts::OBJECT_AT_INFINITY_FLAG;
+use crate::contexts::OBJECT_DISTANCE_SPECIFIED_FLAG;
+use crate::contexts::POSITION_X;
+use crate::contexts::POSITION_Y;
+use crate::contexts::POSITION_Z;
+use crate::contexts::POSITION_Z_SIGN;
+use crate::state::is_set;
+use crate::state::with_position;
+use bits::BitPlace;
+use bits::Flag;
+use bits::Number;
+use bits::Passed;
+use bits::Signed;
+use rows::row::Position;
+use rows::row::Row;
+
+pub fn parse_position(
+    payload: &[u8],
+    limit: BitPlace,
+    at: BitPlace,
+    flags: u32,
+    first: bool,
+    row: Row,
+) -> Updated
+    ensures { λ r. ⌜ saidRow r ≡ pass.positionPass first flags (rowSaid row) (now (payload .entry)) (limit .0) (at .0) ⌝ }
+{
+    if !is_set(flags, 3) {
+        return Updated::Row(row, at);
+    }
+    if first {
+        return parse_absolute(payload, limit, at, flags, row);
+    }
+    match bits::read_flag(payload, limit, at, DIFFERENTIAL_POSITION_FLAG) {
+        Flag::Refused(refusal) => Updated::Refused(refusal),
+        Flag::Is(differential, at) => {
+            if differential {
+                parse_differential(payload, limit, at, row)
+            } else {
+                parse_absolute(payload, limit, at, flags, row)
+            }
+        }
+    }
+}
+
+fn parse_differential(payload: &[u8], limit: BitPlace, at: BitPlace, row: Row) -> Updated
+    ensures { λ r. ⌜ ((flags : ℕ) → saidRow r ≡ pass.placePass flags (rowSaid row) standard.differential (now (payload .entry)) (limit .0) (at .0)) ⌝ }
+{
+    match bits::read_signed(payload, limit, at, 3, DIFFERENTIAL_X) {
+        Signed::Refused(refusal) => Updated::Refused(refusal),
+        Signed::Value(x, at) => match bits::read_signed(payload, limit, at, 3, DIFFERENTIAL_Y) {
+            Signed::Refused(refusal) => Updated::Refused(refusal),
+            Signed::Value(y, at) => match bits::read_signed(payload, limit, at, 3, DIFFERENTIAL_Z) {
+                Signed::Refused(refusal) => Updated::Refused(refusal),
+                Signed::Value(z, at) => {
+                    let old = row.picture.position;
+                    let steps = Position { x, y, z };
+                    place(payload, limit, at, stepped(old, steps), false, row)
+                }
+            },
+        },
+    }
+}
+
+// Steps stop at the ends of the range.
+fn stepped(old: Position, steps: Position) -> Position
+    ensures { λ r. ⌜ positionSaid r ≡ meaning.stepped (positionSaid steps) (positionSaid old) ⌝ }
+{
+    Position {
+        x: step(old.x, steps.x, 0, 62),
+        y: step(old.y, steps.y, 0, 62),
+        z: step(old.z, steps.z, -15, 15),
+    }
+}
+
+// The sum is taken at 32 bits, so that nothing is asked of either number.
+fn step(coordinate: i16, by: i16, low: i16, high: i16) -> i16
+    ensures { λ r. ⌜ r ≡ meaning.clamp low high (coordinate +ℤ by) ⌝ }
+{
+    let sum = (coordinate as i32) + (by as i32);
+    if sum < (low as i32) {
+        low
+    } else if (high as i32) < sum {
+        high
+    } else {
+        sum as i16
+    }
+}
+
+// Beside the three other groups an absolute position settles the picture.
+fn parse_absolute(payload: &[u8], limit: BitPlace, at: BitPlace, flags: u32, row: Row) -> Updated
+    ensures { λ r. ⌜ saidRow r ≡ pass.placePass flags (rowSaid row) standard.absolutely (now (payload .entry)) (limit .0) (at .0) ⌝ }
+{
+    match bits::read(payload, limit, at, 6, POSITION_X) {
+        Number::Refused(refusal) => Updated::Refused(refusal),
+        Number::Value(x, at) => match bits::read(payload, limit, at, 6, POSITION_Y) {
+            Number::Refused(refusal) => Updated::Refused(refusal),
+            Number::Value(y, at) => match bits::read_flag(payload, limit, at, POSITION_Z_SIGN) {
+                Flag::Refused(refusal) => Updated::Refused(refusal),
+                Flag::Is(positive, at) => match bits::read(payload, limit, at, 4, POSITION_Z) {
+                    Number::Refused(refusal) => Updated::Refused(refusal),
+                    Number::Value(z, at) => {
+                        let position = Position {
+                            x: coordinate(x),
+                            y: coordinate(y),
+                            z: height(positive, z),
+                        };
+                        place(payload, limit, at, position, flags % 8 == 7, row)
+                    }
+                },
+            },
+        },
+    }
+}
+
+fn coordinate(word: u32) -> i16
+    ensures { λ r. ⌜ r ≡ pos (min word 62) ⌝ }
+{
+    if word < 62 { word as i16 } else { 62 }
+}
+
+fn height(positive: bool, word: u32) -> i16
+    requires { ⌜ word < 16 ⌝ }
+    ensures { λ r. ⌜ r ≡ cond positive (pos word) (negℤ (pos word)) ⌝ }
+{
+    let number = word as i16;
+    if positive { number } else { -number }
+}
+
+fn place(
+    payload: &[u8],
+    limit: BitPlace,
+    at: BitPlace,
+    position: Position,
+    settles: bool,
+    row: Row,
+) -> Updated
+    ensures { λ r. ⌜ saidRow r ≡ pass.pastDistance (pass.placed (positionSaid position) settles (rowSaid row)) (now (payload .entry)) (limit .0) (at .0) ⌝ }
+{
+    match skip_distance(payload, limit, at) {
+        Passed::Refused(refusal) => Updated::Refused(refusal),
+        Passed::To(at) => Updated::Row(with_position(row, position, settles), at),
+    }
+}
+
+fn skip_distance(payload: &[u8], limit: BitPlace, at: BitPlace) -> Passed
+    ensures { λ r. ⌜ saidPassed r ≡ standard.distance (now (payload .entry)) (limit .0) (at .0) ⌝ }
+{
+    match bits::read_flag(payload, limit, at, OBJECT_DISTANCE_SPECIFIED_FLAG) {
+        Flag::Refused(refusal) => Passed::Refused(refusal),
+        Flag::Is(specified, at) => {
+            if !specified {
+                return Passed::To(at);
+            }
+            match bits::read_flag(payload, limit, at, OBJECT_AT_INFINITY_FLAG) {
+                Flag::Refused(refusal) => Passed::Refused(refusal),
+                Flag::Is(infinite, at) => {
+                    if infinite {
+                        return Passed::To(at);
+                    }
+                    match bits::read(payload, limit, at, 4, DISTANCE_FACTOR_INDEX) {
+                        Number::Refused(refusal) => Passed::Refused(refusal),
+                        Number::Value(_, at) => Passed::To(at),
+                    }
+                }
+            }
+        }
+    }
+}

@@ -1,0 +1,177 @@
+// Render information: an object's picture and its mark.
+ghost use mathlib.Core.Path.{_≡_};
+ghost use Rattle.rows.specs.Say.{rowSaid};
+ghost use Rattle.update.specs.Passes as pass;
+ghost use Rattle.update.specs.Say.{saidRow};
+use crate::Updated;
+use crate::contexts::DEPTH_FACTOR_INDEX;
+use crate::contexts::ELEVATION_ENABLED_FLAG;
+use crate::contexts::MIXED_RENDER_INFO_FLAGS;
+use crate::contexts::OBJECT_DEPTH;
+use crate::contexts::OBJECT_HEIGHT;
+use crate::contexts::OBJECT_SIZE;
+use crate::contexts::OBJECT_SIZE_INDEX;
+use crate::contexts::OBJECT_SNAP_FLAG;
+use crate::contexts::OBJECT_WIDTH;
+use crate::contexts::SCREEN_FACTOR;
+use crate::contexts::SCREEN_REFERENCE_FLAG;
+use crate::contexts::ZONE_CONSTRAINTS_INDEX;
+use crate::position::parse_position;
+use crate::state::is_set;
+use crate::state::reset_render_info;
+use crate::state::with_lock;
+use crate::state::with_screen;
+use crate::state::with_size;
+use crate::state::with_zone;
+use bits::BitPlace;
+use bits::Flag;
+use bits::Number;
+use bits::Refusal;
+use rows::row::Row;
+
+pub fn parse_render_info(
+    payload: &[u8],
+    limit: BitPlace,
+    at: BitPlace,
+    status: u32,
+    first: bool,
+    row: Row,
+) -> Updated
+    ensures { λ r. ⌜ saidRow r ≡ pass.renderPass first status (rowSaid row) (now (payload .entry)) (limit .0) (at .0) ⌝ }
+{
+    match status {
+        0 => Updated::Row(reset_render_info(row), at),
+        1 => parse_groups(payload, limit, at, 0b1111, first, row),
+        2 => Updated::Row(row, at),
+        _ => match bits::read(payload, limit, at, 4, MIXED_RENDER_INFO_FLAGS) {
+            Number::Refused(refusal) => Updated::Refused(refusal),
+            Number::Value(flags, at) => parse_groups(payload, limit, at, flags, first, row),
+        },
+    }
+}
+
+// The groups that the flags choose, then lock always.
+fn parse_groups(
+    payload: &[u8],
+    limit: BitPlace,
+    at: BitPlace,
+    flags: u32,
+    first: bool,
+    row: Row,
+) -> Updated
+    ensures { λ r. ⌜ saidRow r ≡ pass.groupsPass first flags (rowSaid row) (now (payload .entry)) (limit .0) (at .0) ⌝ }
+{
+    let placed = parse_position(payload, limit, at, flags, first, row);
+    let Updated::Row(row, at) = placed else {
+        return placed;
+    };
+    let zoned = parse_zone(payload, limit, at, flags, row);
+    let Updated::Row(row, at) = zoned else {
+        return zoned;
+    };
+    let sized = parse_size(payload, limit, at, flags, row);
+    let Updated::Row(row, at) = sized else {
+        return sized;
+    };
+    let screened = parse_screen(payload, limit, at, flags, row);
+    let Updated::Row(row, at) = screened else {
+        return screened;
+    };
+    parse_lock(payload, limit, at, row)
+}
+
+fn parse_zone(payload: &[u8], limit: BitPlace, at: BitPlace, flags: u32, row: Row) -> Updated
+    ensures { λ r. ⌜ saidRow r ≡ pass.zonePass flags (rowSaid row) (now (payload .entry)) (limit .0) (at .0) ⌝ }
+{
+    if !is_set(flags, 2) {
+        return Updated::Row(row, at);
+    }
+    match bits::read(payload, limit, at, 3, ZONE_CONSTRAINTS_INDEX) {
+        Number::Refused(refusal) => Updated::Refused(refusal),
+        Number::Value(zone, next) => {
+            if zone > 5 {
+                return Updated::Refused(Refusal::invalid(ZONE_CONSTRAINTS_INDEX, at));
+            }
+            match bits::read_flag(payload, limit, next, ELEVATION_ENABLED_FLAG) {
+                Flag::Refused(refusal) => Updated::Refused(refusal),
+                Flag::Is(elevated, next) => Updated::Row(with_zone(row, zone, elevated), next),
+            }
+        }
+    }
+}
+
+fn parse_size(payload: &[u8], limit: BitPlace, at: BitPlace, flags: u32, row: Row) -> Updated
+    ensures { λ r. ⌜ saidRow r ≡ pass.sizePass flags (rowSaid row) (now (payload .entry)) (limit .0) (at .0) ⌝ }
+{
+    if !is_set(flags, 1) {
+        return Updated::Row(row, at);
+    }
+    match bits::read(payload, limit, at, 2, OBJECT_SIZE_INDEX) {
+        Number::Refused(refusal) => Updated::Refused(refusal),
+        Number::Value(index, next) => match index {
+            0 => Updated::Row(with_size(row, 0, 0, 0), next),
+            1 => match bits::read(payload, limit, next, 5, OBJECT_SIZE) {
+                Number::Refused(refusal) => Updated::Refused(refusal),
+                Number::Value(size, next) => Updated::Row(with_size(row, size, size, size), next),
+            },
+            2 => parse_sizes(payload, limit, next, row),
+            _ => Updated::Refused(Refusal::invalid(OBJECT_SIZE_INDEX, at)),
+        },
+    }
+}
+
+fn parse_sizes(payload: &[u8], limit: BitPlace, at: BitPlace, row: Row) -> Updated
+    ensures { λ r. ⌜ saidRow r ≡ pass.sizesPass (rowSaid row) (now (payload .entry)) (limit .0) (at .0) ⌝ }
+{
+    match bits::read(payload, limit, at, 5, OBJECT_WIDTH) {
+        Number::Refused(refusal) => Updated::Refused(refusal),
+        Number::Value(width, at) => match bits::read(payload, limit, at, 5, OBJECT_DEPTH) {
+            Number::Refused(refusal) => Updated::Refused(refusal),
+            Number::Value(depth, at) => match bits::read(payload, limit, at, 5, OBJECT_HEIGHT) {
+                Number::Refused(refusal) => Updated::Refused(refusal),
+                Number::Value(height, at) => {
+                    Updated::Row(with_size(row, width, depth, height), at)
+                }
+            },
+        },
+    }
+}
+
+fn parse_screen(payload: &[u8], limit: BitPlace, at: BitPlace, flags: u32, row: Row) -> Updated
+    ensures { λ r. ⌜ saidRow r ≡ pass.screenPass flags (rowSaid row) (now (payload .entry)) (limit .0) (at .0) ⌝ }
+{
+    if !is_set(flags, 0) {
+        return Updated::Row(row, at);
+    }
+    match bits::read_flag(payload, limit, at, SCREEN_REFERENCE_FLAG) {
+        Flag::Refused(refusal) => Updated::Refused(refusal),
+        Flag::Is(on, at) => {
+            let row = with_screen(row, on);
+            if !on {
+                return Updated::Row(row, at);
+            }
+            match bits::read(payload, limit, at, 3, SCREEN_FACTOR) {
+                Number::Refused(refusal) => Updated::Refused(refusal),
+                Number::Value(_, at) => match bits::read(
+                    payload,
+                    limit,
+                    at,
+                    2,
+                    DEPTH_FACTOR_INDEX,
+                ) {
+                    Number::Refused(refusal) => Updated::Refused(refusal),
+                    Number::Value(_, at) => Updated::Row(row, at),
+                },
+            }
+        }
+    }
+}
+
+fn parse_lock(payload: &[u8], limit: BitPlace, at: BitPlace, row: Row) -> Updated
+    ensures { λ r. ⌜ saidRow r ≡ pass.lockPass (rowSaid row) (now (payload .entry)) (limit .0) (at .0) ⌝ }
+{
+    match bits::read_flag(payload, limit, at, OBJECT_SNAP_FLAG) {
+        Flag::Refused(refusal) => Updated::Refused(refusal),
+        Flag::Is(on, at) => Updated::Row(with_lock(row, on), at),
+    }
+}

@@ -1,0 +1,161 @@
+// A row with one part anew.
+ghost use mathlib.Core.Path.{_≡_};
+ghost use Prim.Native.Nat.{_≤_, _<_};
+ghost use lib.IntN.{pos};
+ghost use Rattle.bits.specs.Bits.{isSet};
+ghost use Rattle.standard.specs.Updates.{bit, sized};
+ghost use Rattle.standard.specs.Rows.{defaultPicture};
+ghost use Rattle.rows.specs.Say.{positionSaid, zoneSaid, sizeSaid, pictureSaid, rowSaid};
+ghost use Rattle.update.specs.Kinds.{kindOf};
+ghost use Rattle.update.specs.Passes as pass;
+use rows::row::Picture;
+use rows::row::Position;
+use rows::row::Row;
+use rows::row::Size;
+use rows::row::Zone;
+
+// The kind of an object that moves, after those that are fixed.
+pub const DYNAMIC: u8 = 3;
+
+// The gain that stands for minus infinity.
+pub const SILENCE: i16 = -128;
+
+// The mark of a settled picture.
+pub const SETTLED: i16 = 1;
+
+// Whether a bit of a number is set, counted from the lowest.
+pub fn is_set(flags: u32, bit: u32) -> bool
+    requires { ⌜ bit < 32 ⌝ }
+    ensures { λ r. ⌜ r ≡ isSet bit flags ⌝ }
+{
+    (flags >> bit) % 2 == 1
+}
+
+pub fn number_of(flag: bool) -> i16
+    ensures { λ r. ⌜ r ≡ bit flag ⌝ }
+{
+    if flag { 1 } else { 0 }
+}
+
+pub fn with_gain(mut row: Row, gain: i16) -> Row
+    ensures { λ r. ⌜ rowSaid r ≡ pass.withGain gain (rowSaid row) ⌝ }
+{
+    row.gain = gain;
+    row
+}
+
+pub fn with_priority(mut row: Row, priority: u32) -> Row
+    requires { ⌜ priority ≤ 32 ⌝ }
+    ensures { λ r. ⌜ rowSaid r ≡ pass.withPriority (pos priority) (rowSaid row) ⌝ }
+{
+    row.priority = priority as i16;
+    row
+}
+
+pub fn silenced(mut row: Row) -> Row
+    ensures { λ r. ⌜ rowSaid r ≡ pass.silenced (rowSaid row) ⌝ }
+{
+    row.gain = SILENCE;
+    row.priority = 0;
+    row
+}
+
+pub fn with_position(mut row: Row, position: Position, settles: bool) -> Row
+    ensures { λ r. ⌜ rowSaid r ≡ pass.placed (positionSaid position) settles (rowSaid row) ⌝ }
+{
+    let mut picture = row.picture;
+    picture.position = position;
+    row.picture = picture;
+    if settles {
+        row.mark = SETTLED;
+    }
+    row
+}
+
+pub fn with_zone(mut row: Row, zone: u32, elevated: bool) -> Row
+    requires { ⌜ zone < 8 ⌝ }
+    ensures { λ r. ⌜ rowSaid r ≡ pass.withZone (pass.zoned zone elevated) (rowSaid row) ⌝ }
+{
+    let zone = Zone {
+        zone: zone as i16,
+        elevation: number_of(elevated),
+    };
+    let mut picture = row.picture;
+    picture.zone = zone;
+    row.picture = picture;
+    row
+}
+
+pub fn with_size(mut row: Row, width: u32, depth: u32, height: u32) -> Row
+    requires { ⌜ (width < 32) × (depth < 32) × (height < 32) ⌝ }
+    ensures { λ r. ⌜ rowSaid r ≡ pass.withSize (sized width depth height) (rowSaid row) ⌝ }
+{
+    let size = Size {
+        width: width as i16,
+        depth: depth as i16,
+        height: height as i16,
+    };
+    let mut picture = row.picture;
+    picture.size = size;
+    row.picture = picture;
+    row
+}
+
+pub fn with_screen(mut row: Row, on: bool) -> Row
+    ensures { λ r. ⌜ rowSaid r ≡ pass.withScreen (bit on) (rowSaid row) ⌝ }
+{
+    let mut picture = row.picture;
+    picture.screen = number_of(on);
+    row.picture = picture;
+    row
+}
+
+pub fn with_lock(mut row: Row, on: bool) -> Row
+    ensures { λ r. ⌜ rowSaid r ≡ pass.withLock (bit on) (rowSaid row) ⌝ }
+{
+    let mut picture = row.picture;
+    picture.lock = number_of(on);
+    row.picture = picture;
+    row
+}
+
+pub fn default_picture() -> Picture
+    ensures { λ r. ⌜ pictureSaid r ≡ defaultPicture ⌝ }
+{
+    Picture {
+        position: Position { x: 31, y: 31, z: 0 },
+        zone: Zone {
+            zone: 0,
+            elevation: 1,
+        },
+        size: Size {
+            width: 0,
+            depth: 0,
+            height: 0,
+        },
+        screen: 0,
+        lock: 0,
+    }
+}
+
+pub fn reset_render_info(mut row: Row) -> Row
+    ensures { λ r. ⌜ rowSaid r ≡ pass.reset (rowSaid row) ⌝ }
+{
+    row.picture = default_picture();
+    row.mark = SETTLED;
+    row
+}
+
+// Fixed kinds are settled in every block.
+pub fn begun(mut row: Row, kind: u8, inactive: bool) -> Row
+    ensures { λ r. ⌜ rowSaid r ≡ pass.begun (kindOf kind) inactive (rowSaid row) ⌝ }
+{
+    row.active = number_of(!inactive);
+    if kind < DYNAMIC {
+        row.kind = kind as i16;
+        row.mark = SETTLED;
+    } else {
+        row.kind = DYNAMIC as i16;
+    }
+    row
+}

@@ -1,0 +1,100 @@
+//! Shows that the comparison can fail: wrong numbers, one of each sort, and wrong models of the marks.
+
+use crate::heard_all::Wrong;
+use crate::run::Run;
+use crate::spoil::{spoils, Spoil};
+use oracle::listener::Listener;
+use oracle::marks::{Mistake, MISTAKES};
+
+/// Enough for each spoil's moment, and for each mistake to show.
+const SEQUENCES: usize = 20_000;
+
+pub fn falsify(seed: u64) -> bool {
+    let spoils = spoils();
+    let wrongs = Wrong::all();
+    let numbers: Vec<bool> = spoils
+        .iter()
+        .map(|spoil| wrong_number(seed, *spoil))
+        .collect();
+    let heard: Vec<bool> = wrongs
+        .iter()
+        .map(|wrong| wrongly_heard(seed, *wrong))
+        .collect();
+    let models: Vec<bool> = MISTAKES
+        .iter()
+        .map(|mistake| wrong_model(seed, *mistake))
+        .collect();
+    report_views(seed)
+        & report("wrong numbers", &spoils, &numbers)
+        & report(
+            "numbers wrongly heard by the other decoder",
+            &wrongs,
+            &heard,
+        )
+        & report("wrong models", &MISTAKES, &models)
+}
+
+#[cfg(not(views))]
+fn report_views(_seed: u64) -> bool {
+    true
+}
+
+/// Each number of the calls on finished tables, expected wrongly.
+#[cfg(views)]
+fn report_views(seed: u64) -> bool {
+    use crate::views::Views;
+    let parts = Views::parts();
+    let found = |part: &&'static str| {
+        let mut views = Views::new(seed);
+        views.spoil = Some(*part);
+        (0..SEQUENCES).any(|_| {
+            views
+                .case()
+                .is_err_and(|difference| difference.part == *part)
+        })
+    };
+    let found: Vec<bool> = parts.iter().map(found).collect();
+    report("wrong numbers of views", &parts, &found)
+}
+
+fn report(name: &str, all: &[impl std::fmt::Debug], right: &[bool]) -> bool {
+    let good = right.iter().filter(|good| **good).count();
+    println!("{name}: {}, of these judged rightly {good}", all.len());
+    for (one, _) in all.iter().zip(right).filter(|(_, good)| !**good) {
+        println!("judged wrongly: {one:?}");
+    }
+    good == all.len()
+}
+
+/// A difference is found when the number is spoiled, and not before.
+fn wrong_number(seed: u64, spoil: Spoil) -> bool {
+    let mut run = Run::new(seed, Listener::default());
+    run.bench.spoil = Some(spoil);
+    for _ in 0..SEQUENCES {
+        let found = run.sequence().is_err();
+        let spoiled = run.bench.spoil.is_some_and(|spoil| spoil.done);
+        if found || spoiled {
+            return found && spoiled;
+        }
+    }
+    false
+}
+
+/// A settled number that is wrong is found at once; an unsettled one is not.
+fn wrongly_heard(seed: u64, wrong: Wrong) -> bool {
+    let mut run = Run::new(seed, Listener::default());
+    run.all.spoil = Some(wrong);
+    for _ in 0..SEQUENCES {
+        let found = run.sequence().is_err();
+        let spoiled = run.all.spoil.is_none();
+        if found || spoiled {
+            return spoiled && found == wrong.is_found();
+        }
+    }
+    false
+}
+
+fn wrong_model(seed: u64, mistake: Mistake) -> bool {
+    let mut run = Run::new(seed, Listener::mistaken(mistake));
+    (0..SEQUENCES).any(|_| run.sequence().is_err())
+}

@@ -1,0 +1,148 @@
+//! What was seen, printed at the end; and whether that was enough.
+
+use oracle::aim::aims;
+use oracle::context;
+use oracle::listener::Expected;
+use oracle::orders::{Order, Position};
+use oracle::tables::{MARK, ROW_WIDTH};
+use std::collections::{BTreeMap, BTreeSet};
+
+/// The least share of accepted payloads, in percent.
+const LEAST_ACCEPTED: u64 = 40;
+
+#[derive(Default)]
+pub struct Tally {
+    pub payloads: u64,
+    pub accepted: u64,
+    refused: BTreeMap<(u32, u32), u64>,
+    gain_codes: [u64; 4],
+    basic_statuses: [u64; 4],
+    render_statuses: [u64; 4],
+    absolute: u64,
+    differential: u64,
+    start_rows: u64,
+    block_rows: u64,
+    unsettled_start_rows: u64,
+    unsettled_block_rows: u64,
+    unsettled_frames: u64,
+    kinds_changed: u64,
+    pub gaps: u64,
+    pub missed: u64,
+    pub resets: u64,
+    pub planted: u64,
+    pub lent: BTreeMap<u32, u64>,
+    pub compared_with_all: u64,
+    pub differences: u64,
+}
+
+impl Tally {
+    pub fn count(&mut self, expected: &Expected) {
+        self.payloads += 1;
+        let said = expected.said;
+        if said.number != 0 {
+            *self.refused.entry((said.number, said.context)).or_default() += 1;
+            return;
+        }
+        self.accepted += 1;
+        self.kinds_changed += u64::from(expected.kinds_changed);
+        self.unsettled_frames += u64::from(said.unsettled > 0);
+        self.start_rows += u64::from(said.objects);
+        self.block_rows += u64::from(said.objects * said.blocks);
+        self.unsettled_start_rows += unsettled(&expected.start);
+        self.unsettled_block_rows += unsettled(&expected.blocks);
+        for order in &expected.orders {
+            self.count_order(order);
+        }
+    }
+
+    fn count_order(&mut self, order: &Order) {
+        let add = |counts: &mut [u64; 4], code: Option<u32>| {
+            if let Some(code) = code {
+                counts[code as usize] += 1;
+            }
+        };
+        add(&mut self.gain_codes, order.gain_code);
+        add(&mut self.basic_statuses, order.basic_status);
+        add(&mut self.render_statuses, order.render_status);
+        match order.position {
+            Some(Position::Absolute) => self.absolute += 1,
+            Some(Position::Differential) => self.differential += 1,
+            None => {}
+        }
+    }
+
+    pub fn print(&self) {
+        let share = self.accepted * 100 / self.payloads.max(1);
+        for (&(number, context), times) in &self.refused {
+            let text = if context == 0 {
+                "payload over the limit"
+            } else {
+                context::string(context as u8)
+            };
+            println!("{times:9} no {number} {context} {text}");
+        }
+        println!(
+            "payloads {}, accepted {} ({share} %)",
+            self.payloads, self.accepted
+        );
+        println!("gain codes 0 to 3: {:?}", self.gain_codes);
+        println!(
+            "basic statuses 0 to 3, past the first block: {:?}",
+            self.basic_statuses
+        );
+        println!(
+            "render statuses 0 to 3, past the first block: {:?}",
+            self.render_statuses
+        );
+        println!(
+            "positions: absolute {}, differential {}",
+            self.absolute, self.differential
+        );
+        println!(
+            "start rows {}, unsettled {}; block rows {}, unsettled {}; frames that end unsettled {}",
+            self.start_rows,
+            self.unsettled_start_rows,
+            self.block_rows,
+            self.unsettled_block_rows,
+            self.unsettled_frames
+        );
+        println!(
+            "kinds changed {}, gaps {}, payloads missed {}, resets {}, planted tables {}",
+            self.kinds_changed, self.gaps, self.missed, self.resets, self.planted
+        );
+        println!(
+            "frames compared with a decoder that heard all: {}",
+            self.compared_with_all
+        );
+        println!(
+            "further calls by refusal (5 Room, 6 Form, 7 Size): {:?}",
+            self.lent
+        );
+        println!("differences {}", self.differences);
+    }
+
+    /// Why the run proves too little, or nothing.
+    pub fn complaints(&self) -> Vec<String> {
+        let mut complaints = Vec::new();
+        if self.differences > 0 {
+            complaints.push(format!("{} differences", self.differences));
+        }
+        if self.accepted * 100 < self.payloads * LEAST_ACCEPTED {
+            complaints.push(format!("less than {LEAST_ACCEPTED} % accepted"));
+        }
+        let pairs = aims()
+            .into_iter()
+            .map(|aim| (u32::from(aim.number), u32::from(aim.context)));
+        let unseen: BTreeSet<_> = pairs
+            .filter(|pair| !self.refused.contains_key(pair))
+            .collect();
+        if !unseen.is_empty() {
+            complaints.push(format!("refusals never seen (number, context): {unseen:?}"));
+        }
+        complaints
+    }
+}
+
+fn unsettled(rows: &[i16]) -> u64 {
+    rows.chunks(ROW_WIDTH).filter(|row| row[MARK] == 0).count() as u64
+}

@@ -1,0 +1,98 @@
+//! Writes the fixed list that the program `replay` runs; docs/notes/replay-list.md has its format.
+
+use oracle::aim::aims;
+use oracle::fixed::sequences;
+use oracle::journal::Record;
+use oracle::listener::{Expected, Listener};
+use oracle::tables::RETAINED_HEAD;
+use std::collections::BTreeSet;
+use std::io::{self, Write};
+
+const SEQUENCE: &[u8] = b"S";
+const RESET: &[u8] = b"R";
+const GAP: &[u8] = b"G";
+const PAYLOAD: &[u8] = b"P";
+const END: &[u8] = b"E";
+
+pub fn write(seed: u64, out: &mut impl Write) -> io::Result<()> {
+    let mut listener = Listener::default();
+    let mut seen = BTreeSet::new();
+    for records in sequences(seed) {
+        out.write_all(SEQUENCE)?;
+        for record in records {
+            match record {
+                Record::Reset => {
+                    listener.reset();
+                    out.write_all(RESET)?;
+                }
+                Record::Gap => {
+                    listener.gap();
+                    out.write_all(GAP)?;
+                }
+                Record::Payload(payload) => {
+                    let expected = listener.decode(&payload);
+                    seen.insert((expected.said.number, expected.said.context));
+                    write_payload(&payload, &expected, &listener.retained(), out)?;
+                }
+            }
+        }
+    }
+    out.write_all(END)?;
+    let reachable = aims()
+        .into_iter()
+        .map(|aim| (u32::from(aim.number), u32::from(aim.context)));
+    let unseen: BTreeSet<_> = reachable.filter(|pair| !seen.contains(pair)).collect();
+    if !unseen.is_empty() {
+        return Err(io::Error::other(format!(
+            "refusals not in the list: {unseen:?}"
+        )));
+    }
+    Ok(())
+}
+
+fn write_payload(
+    payload: &[u8],
+    expected: &Expected,
+    retained: &[i16],
+    out: &mut impl Write,
+) -> io::Result<()> {
+    let answer = answer(expected, retained);
+    out.write_all(PAYLOAD)?;
+    out.write_all(&(payload.len() as u16).to_be_bytes())?;
+    out.write_all(&(answer.len() as u16).to_be_bytes())?;
+    out.write_all(payload)?;
+    out.write_all(&answer)
+}
+
+/// Every number of a row lies between -128 and 127, so it takes one byte. The block rows stand last.
+fn answer(expected: &Expected, retained: &[i16]) -> Vec<u8> {
+    let said = expected.said;
+    let mut bytes = vec![small(said.number), small(said.context)];
+    bytes.extend(said.place.to_be_bytes());
+    bytes.extend([said.objects, said.blocks, said.unsettled].map(small));
+    if said.number == 0 {
+        let timings = expected.timings.iter();
+        bytes.extend(timings.flat_map(|timing| timing.to_be_bytes()));
+        let (kept, rest) = retained.split_at(RETAINED_HEAD + expected.start.len());
+        assert!(
+            rest.iter().all(|&number| number == 0),
+            "zeros behind the rows"
+        );
+        let (head, rows) = kept.split_at(RETAINED_HEAD);
+        bytes.extend(head.iter().map(|&number| small(number as u32)));
+        bytes.extend(signed(&expected.start));
+        bytes.extend(signed(rows));
+        bytes.extend(signed(&expected.blocks));
+    }
+    bytes
+}
+
+fn small(number: u32) -> u8 {
+    u8::try_from(number).expect("a number of 8 bits")
+}
+
+fn signed(numbers: &[i16]) -> impl Iterator<Item = u8> + '_ {
+    numbers
+        .iter()
+        .map(|&number| i8::try_from(number).expect("a signed number of 8 bits") as u8)
+}

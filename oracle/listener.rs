@@ -1,0 +1,138 @@
+//! The Rust decoder with the model of marks beside it: what document 01 expects of each call.
+
+use crate::answer::{orders_of, Frame, Oracle, Refusal, Row};
+use crate::form::rows_of;
+use crate::marks::{Marks, Mistake};
+use crate::orders::Order;
+use crate::tables::{COUNT, DOUBT, MARK, RETAINED_HEAD, RETAINED_LENGTH, ROW_WIDTH};
+
+/// The number given back and the five numbers of the answer.
+#[derive(Clone, Copy, Debug, Default, PartialEq, Eq)]
+pub struct Said {
+    pub number: u32,
+    pub context: u32,
+    pub place: u32,
+    pub objects: u32,
+    pub blocks: u32,
+    pub unsettled: u32,
+}
+
+/// What one payload is to give. The rows are 15 numbers each; a refusal has none.
+#[derive(Clone, Default)]
+pub struct Expected {
+    pub said: Said,
+    pub timings: Vec<u16>,
+    pub start: Vec<i16>,
+    pub blocks: Vec<i16>,
+    pub orders: Vec<Order>,
+    /// Whether rows were retained, of other kinds than the payload's.
+    pub kinds_changed: bool,
+}
+
+#[derive(Default)]
+pub struct Listener {
+    oracle: Oracle,
+    marks: Marks,
+}
+
+impl Listener {
+    /// One whose marks follow a wrong reading.
+    pub fn mistaken(mistake: Mistake) -> Self {
+        let mut listener = Listener::default();
+        listener.marks.mistake = Some(mistake);
+        listener
+    }
+
+    pub fn reset(&mut self) {
+        self.oracle.reset();
+        self.marks.reset();
+    }
+
+    pub fn gap(&mut self) {
+        self.marks.gap();
+    }
+
+    pub fn doubts(&self) -> bool {
+        self.marks.doubt
+    }
+
+    /// Goes on from any retained table in form.
+    pub fn plant(&mut self, table: &[i16]) {
+        let rows = rows_of(table);
+        self.oracle.plant(&rows);
+        let marks = table[RETAINED_HEAD..]
+            .chunks(ROW_WIDTH)
+            .map(|row| row[MARK] == 1);
+        self.marks.marks = marks.take(rows.len()).collect();
+        self.marks.kinds = rows.iter().map(|row| row[0]).collect();
+        self.marks.doubt = table[DOUBT] == 1;
+    }
+
+    pub fn decode(&mut self, payload: &[u8]) -> Expected {
+        let before = self.marks.kinds.clone();
+        match self.oracle.decode(payload) {
+            Ok(frame) => {
+                let kinds_changed = !before.is_empty() && before != frame.kinds;
+                let expected = self.accept(&frame, orders_of(payload));
+                Expected {
+                    kinds_changed,
+                    ..expected
+                }
+            }
+            Err(refusal) => {
+                self.marks.refuse();
+                Expected {
+                    said: refused(refusal),
+                    ..Expected::default()
+                }
+            }
+        }
+    }
+
+    fn accept(&mut self, frame: &Frame, orders: Vec<Order>) -> Expected {
+        let blocks = frame.timings.len();
+        let marks = self.marks.accept(&frame.kinds, blocks, &orders);
+        let last = &marks.blocks[marks.blocks.len() - frame.kinds.len()..];
+        Expected {
+            said: Said {
+                objects: frame.kinds.len() as u32,
+                blocks: blocks as u32,
+                unsettled: last.iter().filter(|settled| !**settled).count() as u32,
+                ..Said::default()
+            },
+            timings: frame.timings.as_flattened().to_vec(),
+            start: marked(&frame.start, &marks.start),
+            blocks: marked(&frame.blocks, &marks.blocks),
+            orders,
+            kinds_changed: false,
+        }
+    }
+
+    /// The whole retained table, zeros behind the rows: as reset or the last acceptance left it.
+    pub fn retained(&self) -> Vec<i16> {
+        let rows = self.oracle.retained();
+        let mut table = vec![0; RETAINED_LENGTH];
+        table[COUNT] = rows.len() as i16;
+        table[DOUBT] = i16::from(self.marks.doubt);
+        let numbers = marked(&rows, &self.marks.marks);
+        table[RETAINED_HEAD..RETAINED_HEAD + numbers.len()].copy_from_slice(&numbers);
+        table
+    }
+}
+
+fn refused(refusal: Refusal) -> Said {
+    Said {
+        number: u32::from(refusal.number),
+        context: u32::from(refusal.context),
+        place: refusal.place as u32,
+        ..Said::default()
+    }
+}
+
+fn marked(rows: &[Row], marks: &[bool]) -> Vec<i16> {
+    assert_eq!(rows.len(), marks.len(), "a mark for each row");
+    let pairs = rows.iter().zip(marks);
+    pairs
+        .flat_map(|(row, &mark)| row.iter().copied().chain([i16::from(mark)]))
+        .collect()
+}

@@ -34,3 +34,4 @@ pub mod ReadingCases
 pub mod ElementCases
 pub mod TableCases
 pub mod WrongDecoders
+pub mod Bounds

@@ -1,28 +1,28 @@
 -- One pass does what the two layers do: each pass is what standard's meaning makes of standard's rule.
 use Prim.Native.Nat.{ℕ, _/_, _%_}
-use mathlib.Core.Path.{_≡_, refl, sym, ap}
+use mathlib.Core.Path.{_≡_, refl, sym}
 use mathlib.Core.Bool.{Bool, true, false, cond, _&&_}
 use mathlib.Core.List.{List}
 use mathlib.Core.Option.{Option, none, some}
 use native.Mathlib.Nat.{div-div-eq-div-mul}
 use native.Mathlib.Omega.{arith}
 use lib.Dec.{eqb}
-use lib.IntN.{ℤ, pos}
+use lib.IntN.{ℤ}
 use borrow.Author.Tests.{eq-eqb, ne-eqb, eqb-true, eqb-false}
 use Rattle.bits.specs.Bits.{isSet}
 use Rattle.bits.specs.Parsed.{Parser, mapParsed, _>>=_, pure, optional, here, Placed, placed}
+use Rattle.bits.proofs.Always.{Always}
+use Rattle.bits.proofs.Always as always
 use Rattle.standard.specs.Contexts as context
-use Rattle.standard.specs.Tree.{Kind, lfe, bed, isf, dynamic, isDynamic, GainWord, PositionWord, Basic, Groups, Render, default, kept, given, Update, inactive, active}
+use Rattle.standard.specs.Tree.{Kind, lfe, bed, isf, dynamic, isDynamic, PositionWord, Basic, Render, kept, given, inactive, active}
 use Rattle.standard.specs.Updates.{bit, gainWord, priorityWord, basic, positionWord, zoneWord, sizeWord, screenWord, groups, render, status, activeUpdate, update}
 use Rattle.standard.specs.Rows.{Row}
-use Rattle.standard.specs.Marks.{settled, absolutelySaid, isSome, settles, settlesAll, newMark, rowMark}
-use Rattle.standard.specs.Meaning.{orBefore, gainSaid, newGain, positionSaid, newPosition, newPicture, rowPicture, updated}
+use Rattle.standard.specs.Marks.{isSome, absolutelySaid, settles, settlesAll, newMark, rowMark}
+use Rattle.standard.specs.Meaning.{orBefore, gainSaid, newGain, newPosition, newPicture, rowPicture, updated}
 use Rattle.update.specs.Passes.{withGain, withPriority, withPicture, withMark, placed as placedAnew, withZone, withSize, withScreen, begun, gainPass, priorityPass, levelsPass, basicPass, pastDistance, placePass, positionPass, zonePass, sizePass, screenPass, lockPass, groupsPass, renderPass, statePass, rowPass}
-use Rattle.bits.proofs.Always as always
-use Rattle.bits.proofs.Always.{Always}
-use Rattle.bits.proofs.Makes.{Makes, given as gives, at-place, choose, from-here, mapped, bind-such, bind, after, next, last, word, said}
+use Rattle.bits.proofs.Makes.{Makes, given as gives, choose, from-here, mapped, bind-such, bind, after, next, last, at-place, word, said}
 
--- whether a word is there is whether it was asked for
+-- a word is there where it was asked for
 module _ {A : Type 0} where
   asked : (b : Bool) (m : Parser A) → Always (λ o. isSome o ≡ b) (optional b m)
   unfolding optional

@@ -1,7 +1,6 @@
 // One object in one block: what is read of it, applied at once to the row before.
 ghost use mathlib.Core.Path.{_≡_};
-ghost use mathlib.Core.Bool.{cond};
-ghost use Rattle.bits.specs.Parsed.{mapParsed, pure};
+ghost use Rattle.bits.specs.Parsed.{mapParsed};
 ghost use Rattle.bits.specs.Say.{said, saidPassed};
 ghost use Rattle.standard.specs.Updates as standard;
 ghost use Rattle.standard.specs.Meaning.{heldRow, defaultRow, updated};
@@ -19,6 +18,7 @@ mod state;
 use basic::PreviousGain;
 use basic::parse_basic_info;
 use bits::BitPlace;
+use bits::ByteCount;
 use bits::Flag;
 use bits::Number;
 use bits::Passed;
@@ -37,12 +37,13 @@ use state::begun;
 use state::default_picture;
 use state::silenced;
 
+// The row that follows and the place after what was read, or the refusal.
 pub enum Updated {
     Row(Row, BitPlace),
     Refused(Refusal),
 }
 
-// The row after `row`, and the place after what was read.
+// `row` is the row before; the previous gain is that of the preceding object in this block, 0 before object 0.
 pub fn parse_update(
     payload: &[u8],
     limit: BitPlace,
@@ -71,6 +72,7 @@ pub fn parse_update(
     }
 }
 
+// An inactive object keeps its picture.
 fn parse_state(
     payload: &[u8],
     limit: BitPlace,
@@ -128,7 +130,8 @@ fn skip_table_data(payload: &[u8], limit: BitPlace, at: BitPlace) -> Passed
             match bits::read(payload, limit, at, 4, ADDITIONAL_TABLE_DATA_SIZE) {
                 Number::Refused(refusal) => Passed::Refused(refusal),
                 Number::Value(bytes, at) => {
-                    bits::skip(limit, at, (bytes as usize + 1) * 8, ADDITIONAL_TABLE_DATA)
+                    let run = ByteCount(bytes as usize + 1).bits();
+                    bits::skip(limit, at, run.0, ADDITIONAL_TABLE_DATA)
                 }
             }
         }

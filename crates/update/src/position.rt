@@ -59,6 +59,7 @@ pub fn parse_position(
     }
 }
 
+// Steps settle nothing, whatever the flags.
 fn parse_differential(payload: &[u8], limit: BitPlace, at: BitPlace, row: Row) -> Updated
     ensures { λ r. ⌜ ((flags : ℕ) → saidRow r ≡ pass.placePass flags (rowSaid row) standard.differential (now (payload .entry)) (limit .0) (at .0)) ⌝ }
 {
@@ -78,7 +79,6 @@ fn parse_differential(payload: &[u8], limit: BitPlace, at: BitPlace, row: Row) -
     }
 }
 
-// Steps stop at the ends of the range.
 fn stepped(old: Position, steps: Position) -> Position
     ensures { λ r. ⌜ positionSaid r ≡ meaning.stepped (positionSaid steps) (positionSaid old) ⌝ }
 {
@@ -89,7 +89,7 @@ fn stepped(old: Position, steps: Position) -> Position
     }
 }
 
-// The sum is taken at 32 bits, so that nothing is asked of either number.
+// Stops at the ends of the range. The sum is taken at 32 bits, so that nothing is asked of either number.
 fn step(coordinate: i16, by: i16, low: i16, high: i16) -> i16
     ensures { λ r. ⌜ r ≡ meaning.clamp low high (coordinate +ℤ by) ⌝ }
 {
@@ -143,6 +143,7 @@ fn height(positive: bool, word: u32) -> i16
     if positive { number } else { -number }
 }
 
+// The distance that may follow a position is dropped.
 fn place(
     payload: &[u8],
     limit: BitPlace,

@@ -17,8 +17,9 @@ use crate::contexts::SCREEN_FACTOR;
 use crate::contexts::SCREEN_REFERENCE_FLAG;
 use crate::contexts::ZONE_CONSTRAINTS_INDEX;
 use crate::position::parse_position;
+use crate::state::SETTLED;
+use crate::state::default_picture;
 use crate::state::is_set;
-use crate::state::reset_render_info;
 use crate::state::with_lock;
 use crate::state::with_screen;
 use crate::state::with_size;
@@ -48,6 +49,14 @@ pub fn parse_render_info(
             Number::Value(flags, at) => parse_groups(payload, limit, at, flags, first, row),
         },
     }
+}
+
+fn reset_render_info(mut row: Row) -> Row
+    ensures { λ r. ⌜ rowSaid r ≡ pass.reset (rowSaid row) ⌝ }
+{
+    row.picture = default_picture();
+    row.mark = SETTLED;
+    row
 }
 
 // The groups that the flags choose, then lock always.

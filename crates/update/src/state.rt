@@ -5,7 +5,7 @@ ghost use lib.IntN.{pos};
 ghost use Rattle.bits.specs.Bits.{isSet};
 ghost use Rattle.standard.specs.Updates.{bit, sized};
 ghost use Rattle.standard.specs.Rows.{defaultPicture};
-ghost use Rattle.rows.specs.Say.{positionSaid, zoneSaid, sizeSaid, pictureSaid, rowSaid};
+ghost use Rattle.rows.specs.Say.{positionSaid, pictureSaid, rowSaid};
 ghost use Rattle.update.specs.Kinds.{kindOf};
 ghost use Rattle.update.specs.Passes as pass;
 use rows::row::Picture;
@@ -37,6 +37,28 @@ pub fn number_of(flag: bool) -> i16
     if flag { 1 } else { 0 }
 }
 
+// Fixed kinds are settled in every block.
+pub fn begun(mut row: Row, kind: u8, inactive: bool) -> Row
+    ensures { λ r. ⌜ rowSaid r ≡ pass.begun (kindOf kind) inactive (rowSaid row) ⌝ }
+{
+    row.active = number_of(!inactive);
+    if kind < DYNAMIC {
+        row.kind = kind as i16;
+        row.mark = SETTLED;
+    } else {
+        row.kind = DYNAMIC as i16;
+    }
+    row
+}
+
+pub fn silenced(mut row: Row) -> Row
+    ensures { λ r. ⌜ rowSaid r ≡ pass.silenced (rowSaid row) ⌝ }
+{
+    row.gain = SILENCE;
+    row.priority = 0;
+    row
+}
+
 pub fn with_gain(mut row: Row, gain: i16) -> Row
     ensures { λ r. ⌜ rowSaid r ≡ pass.withGain gain (rowSaid row) ⌝ }
 {
@@ -49,14 +71,6 @@ pub fn with_priority(mut row: Row, priority: u32) -> Row
     ensures { λ r. ⌜ rowSaid r ≡ pass.withPriority (pos priority) (rowSaid row) ⌝ }
 {
     row.priority = priority as i16;
-    row
-}
-
-pub fn silenced(mut row: Row) -> Row
-    ensures { λ r. ⌜ rowSaid r ≡ pass.silenced (rowSaid row) ⌝ }
-{
-    row.gain = SILENCE;
-    row.priority = 0;
     row
 }
 
@@ -136,26 +150,4 @@ pub fn default_picture() -> Picture
         screen: 0,
         lock: 0,
     }
-}
-
-pub fn reset_render_info(mut row: Row) -> Row
-    ensures { λ r. ⌜ rowSaid r ≡ pass.reset (rowSaid row) ⌝ }
-{
-    row.picture = default_picture();
-    row.mark = SETTLED;
-    row
-}
-
-// Fixed kinds are settled in every block.
-pub fn begun(mut row: Row, kind: u8, inactive: bool) -> Row
-    ensures { λ r. ⌜ rowSaid r ≡ pass.begun (kindOf kind) inactive (rowSaid row) ⌝ }
-{
-    row.active = number_of(!inactive);
-    if kind < DYNAMIC {
-        row.kind = kind as i16;
-        row.mark = SETTLED;
-    } else {
-        row.kind = DYNAMIC as i16;
-    }
-    row
 }

@@ -13,20 +13,20 @@ use Rattle.update.specs.Passes.{begun}
 use Rattle.update.proofs.default_row.Statement.{statement}
 use Rattle.update.proofs.default_row.Tie as tie
 
--- either kind is settled
+-- a new row is settled, whatever its kind
 either : (b : Bool) → cond b settled settled ≡ settled
 either true = refl
 either false = refl
 
-fresh-row : Picture → Row
-fresh-row p = record { kind = pos 0; active = pos 1; gain = pos 0; priority = pos 32; picture = p; mark = settled }
+freshRow : Picture → Row
+freshRow p = record { kind = pos 0; active = pos 1; gain = pos 0; priority = pos 32; picture = p; mark = settled }
 
-held-default : (d : ℤ) (k : Kind) (p : Picture) → p ≡ defaultPicture → heldRow d (begun k false (fresh-row p)) ≡ defaultRow d k
-unfolding heldRow defaultRow bit fresh-row
+held-default : (d : ℤ) (k : Kind) (p : Picture) → p ≡ defaultPicture → heldRow d (begun k false (freshRow p)) ≡ defaultRow d k
+unfolding heldRow defaultRow bit freshRow
 held-default d k p e = rw (e, either (isDynamic k))
 
 returns : tie.Need-returns
-unfolding fresh-row
+unfolding freshRow
 returns c =
     rw (c .held-row .ensures, c .before .begun .ensures, toZ-ofZ (c .before .before .before .fits .doubt))
     (held-default _ _ _ (c .before .before .default-picture .ensures))

@@ -10,6 +10,4 @@ unfolding status pure
 read-status-spec =
     tie.close
     (tie.spec
-    (λ c. rw (c .if1 .taken))
-    (λ c κs. search needs)
-    (λ c. rw (c .before .if1 .left) (c .read .ensures)))
+    (λ c. rw (c .if1 .taken)) (λ c κs. search needs) (λ c. rw (c .before .if1 .left) (c .read .ensures)))

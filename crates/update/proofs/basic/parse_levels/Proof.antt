@@ -10,9 +10,6 @@ unfolding levelsPass _>>=_
 parse-levels-spec =
     tie.close
     (tie.spec
-    (λ c κs. search needs)
-    (λ c. search needs)
-    (λ c. search needs)
-    (λ c. rw (← (c .before .before .parse-gain .ensures), c .enum-told .given .1))
-    (λ c κs. search needs)
+    (λ c κs. search needs) (λ c. search needs) (λ c. search needs)
+    (λ c. rw (← (c .before .before .parse-gain .ensures), c .enum-told .given .1)) (λ c κs. search needs)
     (λ c. rw (← (c .before .before .before .before .parse-gain .ensures), c .before .before .levelled .given .1) (c .parse-priority .ensures)))

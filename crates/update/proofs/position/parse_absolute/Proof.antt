@@ -1,8 +1,8 @@
 -- `update::position::parse_absolute` meets its contract.
 use borrow.Author.Needs.{needs}
-use Rattle.bits.proofs.Laws.{gives, read-lt}
 use Rattle.bits.specs.Parsed.{_>>=_, pure}
 use Rattle.bits.specs.Say.{said}
+use Rattle.bits.proofs.Laws.{gives, read-lt}
 use Rattle.standard.specs.Meaning.{positionSaid}
 use Rattle.standard.specs.Updates.{absolutely}
 use Rattle.update.specs.Passes.{placePass}
@@ -12,10 +12,6 @@ use Rattle.update.proofs.position.parse_absolute.Tie as tie
 
 height-requires : tie.Need-height-requires
 height-requires c κs = gives said (read-lt _ _) (c .before .before .before .before .before .read3 .ensures) (c .before .before .before .z .given .1)
-
-returns : tie.Need-returns
-unfolding placePass absolutely positionSaid _>>=_ pure
-returns c = rw (← (c .before .before .before .read .ensures), c .before .refusal .given .1)
 
 returns-2 : tie.Need-returns-2
 unfolding placePass absolutely positionSaid _>>=_ pure
@@ -36,7 +32,16 @@ returns-4 c =
     let positive = c .before .before .before .before .before in
     let y = positive .before .before .before .before in
     let x = y .before .before .before .before in
-    rw (← (x .before .before .read .ensures), x .x .given .1, ← (y .before .before .read2 .ensures), y .y .given .1, ← (positive .before .before .read-flag .ensures), positive .positive .given .1, ← (c .before .before .before .read3 .ensures), c .before .refusal4 .given .1)
+    rw (
+      ← (x .before .before .read .ensures),
+      x .x .given .1,
+      ← (y .before .before .read2 .ensures),
+      y .y .given .1,
+      ← (positive .before .before .read-flag .ensures),
+      positive .positive .given .1,
+      ← (c .before .before .before .read3 .ensures),
+      c .before .refusal4 .given .1,
+    )
 
 returns-5 : tie.Need-returns-5
 unfolding placePass absolutely positionSaid _>>=_ pure
@@ -45,30 +50,31 @@ returns-5 c =
     let positive = z .before .before .before .before in
     let y = positive .before .before .before .before in
     let x = y .before .before .before .before in
-    rw (c .place .ensures, back (c .before .before .before .coordinate .ok), c .before .before .before .coordinate .ensures, back (c .before .before .coordinate2 .ok), c .before .before .coordinate2 .ensures, back (c .before .height .ok), c .before .height .ensures, ← (x .before .before .read .ensures), x .x .given .1, ← (y .before .before .read2 .ensures), y .y .given .1, ← (positive .before .before .read-flag .ensures), positive .positive .given .1, ← (z .before .before .read3 .ensures), z .z .given .1)
+    rw (
+      c .place .ensures,
+      back {z = c .before .before .before .coordinate .result} (c .before .before .before .coordinate .ok),
+      c .before .before .before .coordinate .ensures,
+      back {z = c .before .before .coordinate2 .result} (c .before .before .coordinate2 .ok),
+      c .before .before .coordinate2 .ensures,
+      back {z = c .before .height .result} (c .before .height .ok),
+      c .before .height .ensures,
+      ← (x .before .before .read .ensures),
+      x .x .given .1,
+      ← (y .before .before .read2 .ensures),
+      y .y .given .1,
+      ← (positive .before .before .read-flag .ensures),
+      positive .positive .given .1,
+      ← (z .before .before .read3 .ensures),
+      z .z .given .1,
+    )
 
 pub parse-absolute-spec : {M : Type 1} → statement M
+unfolding placePass absolutely positionSaid _>>=_ pure
 parse-absolute-spec =
     tie.close
     (tie.spec
-    (λ c κs. search needs)
-    (λ c. search needs)
-    (λ c. search needs)
-    (λ c κs. search needs)
-    (λ c. search needs)
-    (λ c. search needs)
-    (λ c κs. search needs)
-    (λ c. search needs)
-    (λ c. search needs)
-    (λ c κs. search needs)
-    (λ c. search needs)
-    (λ c. search needs)
-    (λ c κs. search needs)
-    (λ c κs. search needs)
-    height-requires
-    (λ c κs. search needs)
-    returns
-    returns-2
-    returns-3
-    returns-4
-    returns-5)
+    (λ c κs. search needs) (λ c. search needs) (λ c. search needs) (λ c κs. search needs) (λ c. search needs)
+    (λ c. search needs) (λ c κs. search needs) (λ c. search needs) (λ c. search needs) (λ c κs. search needs)
+    (λ c. search needs) (λ c. search needs) (λ c κs. search needs) (λ c κs. search needs) height-requires
+    (λ c κs. search needs) (λ c. rw (← (c .before .before .before .read .ensures), c .before .refusal .given .1)) returns-2
+    returns-3 returns-4 returns-5)

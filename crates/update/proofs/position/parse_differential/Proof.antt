@@ -8,10 +8,6 @@ use Rattle.update.proofs.Numbers.{back}
 use Rattle.update.proofs.position.parse_differential.Statement.{statement}
 use Rattle.update.proofs.position.parse_differential.Tie as tie
 
-returns : tie.Need-returns
-unfolding placePass differential positionSaid _>>=_ pure
-returns c flags = rw (← (c .before .before .before .read-signed .ensures), c .before .refusal .given .1)
-
 returns-2 : tie.Need-returns-2
 unfolding placePass differential positionSaid _>>=_ pure
 returns-2 c flags =
@@ -23,7 +19,14 @@ unfolding placePass differential positionSaid _>>=_ pure
 returns-3 c flags =
     let y = c .before .before .before .before .before in
     let x = y .before .before .before .before in
-    rw (← (x .before .before .read-signed .ensures), x .x .given .1, ← (y .before .before .read-signed2 .ensures), y .y .given .1, ← (c .before .before .before .read-signed3 .ensures), c .before .refusal3 .given .1)
+    rw (
+      ← (x .before .before .read-signed .ensures),
+      x .x .given .1,
+      ← (y .before .before .read-signed2 .ensures),
+      y .y .given .1,
+      ← (c .before .before .before .read-signed3 .ensures),
+      c .before .refusal3 .given .1,
+    )
 
 returns-4 : tie.Need-returns-4
 unfolding placePass differential positionSaid _>>=_ pure
@@ -31,24 +34,27 @@ returns-4 c flags =
     let z = c .before .before .before .before in
     let y = z .before .before .before .before in
     let x = y .before .before .before .before in
-    rw (c .place .ensures, c .before .stepped .ensures, back (y .before .before .before .known-told2 .given .0 .1), back (z .before .before .before .known-told4 .given .0 .1), back (c .before .before .before .known-told6 .given .0 .1), ← (x .before .before .read-signed .ensures), x .x .given .1, ← (y .before .before .read-signed2 .ensures), y .y .given .1, ← (z .before .before .read-signed3 .ensures), z .z .given .1)
+    rw (
+      c .place .ensures,
+      c .before .stepped .ensures,
+      back {z = x .x .given .0 .0} (y .before .before .before .known-told2 .given .0 .1),
+      back {z = y .y .given .0 .0} (z .before .before .before .known-told4 .given .0 .1),
+      back {z = z .z .given .0 .0} (c .before .before .before .known-told6 .given .0 .1),
+      ← (x .before .before .read-signed .ensures),
+      x .x .given .1,
+      ← (y .before .before .read-signed2 .ensures),
+      y .y .given .1,
+      ← (z .before .before .read-signed3 .ensures),
+      z .z .given .1,
+    )
 
 pub parse-differential-spec : {M : Type 1} → statement M
+unfolding placePass differential positionSaid _>>=_ pure
 parse-differential-spec =
     tie.close
     (tie.spec
+    (λ c κs. search needs) (λ c. search needs) (λ c. search needs) (λ c κs. search needs) (λ c. search needs)
+    (λ c. search needs) (λ c κs. search needs) (λ c. search needs) (λ c. search needs) (λ c κs. search needs)
     (λ c κs. search needs)
-    (λ c. search needs)
-    (λ c. search needs)
-    (λ c κs. search needs)
-    (λ c. search needs)
-    (λ c. search needs)
-    (λ c κs. search needs)
-    (λ c. search needs)
-    (λ c. search needs)
-    (λ c κs. search needs)
-    (λ c κs. search needs)
-    returns
-    returns-2
-    returns-3
+    (λ c flags. rw (← (c .before .before .before .read-signed .ensures), c .before .refusal .given .1)) returns-2 returns-3
     returns-4)

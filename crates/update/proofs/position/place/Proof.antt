@@ -10,9 +10,6 @@ unfolding pastDistance _>>_ pure
 place-spec =
     tie.close
     (tie.spec
-    (λ c κs. search needs)
-    (λ c. search needs)
-    (λ c. search needs)
-    (λ c κs. search needs)
+    (λ c κs. search needs) (λ c. search needs) (λ c. search needs) (λ c κs. search needs)
     (λ c. rw (← (c .before .before .before .skip-distance .ensures), c .before .refusal .given .1))
     (λ c. rw (c .with-position .ensures, ← (c .before .before .before .before .skip-distance .ensures), c .before .before .at .given .1)))

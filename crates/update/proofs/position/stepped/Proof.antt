@@ -14,9 +14,9 @@ returns c =
     let old = x .before .before .struct-told .given in
     let steps = x .before .struct-told2 .given in
     rw (
-      back (x .step .ok),
-      back (y .step2 .ok),
-      back (c .step3 .ok),
+      back {z = x .step .result} (x .step .ok),
+      back {z = y .step2 .result} (y .step2 .ok),
+      back {z = c .step3 .result} (c .step3 .ok),
       x .step .ensures,
       y .step2 .ensures,
       c .step3 .ensures,

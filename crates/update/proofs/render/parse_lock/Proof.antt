@@ -10,9 +10,6 @@ unfolding lockPass mapP
 parse-lock-spec =
     tie.close
     (tie.spec
-    (λ c κs. search needs)
-    (λ c. search needs)
-    (λ c. search needs)
-    (λ c κs. search needs)
+    (λ c κs. search needs) (λ c. search needs) (λ c. search needs) (λ c κs. search needs)
     (λ c. rw (← (c .before .before .before .read-flag .ensures), c .before .refusal .given .1))
     (λ c. rw (c .with-lock .ensures, ← (c .before .before .before .before .read-flag .ensures), c .before .before .on .given .1)))

@@ -1,0 +1,12 @@
+pub mod FrameBridge
+pub mod Whole
+pub mod ElementsFraming
+pub mod ElementsTurns
+pub mod Counting
+pub mod StartRows
+pub mod Matching
+pub mod Starting
+pub mod Telling
+pub mod RefusalNumbers
+pub mod Ends
+pub mod Determined

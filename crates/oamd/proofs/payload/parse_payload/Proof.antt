@@ -1,0 +1,105 @@
+-- `oamd::payload::parse_payload` meets its contract.
+use Prim.Native.Nat.{_≤_, _<_}
+use native.Mathlib.Omega.{arith}
+use borrow.Author.Needs.{needs}
+use Rattle.bits.specs.Parsed.{_>>=_, _>>_}
+use Rattle.bits.specs.Say.{said}
+use Rattle.bits.proofs.Laws.{gives}
+use Rattle.standard.specs.Numbers.{payloadLimit, objectLimit}
+use Rattle.assignment.proofs.Laws.{object-count-le}
+use Rattle.oamd.specs.Whole.{payloadIn}
+use Rattle.oamd.proofs.Telling.{kinds-read, kinds-refused, untold}
+use Rattle.oamd.proofs.payload.parse_payload.Statement.{statement}
+use Rattle.oamd.proofs.payload.parse_payload.Tie as tie
+
+returns : tie.Need-returns
+unfolding payloadIn _>>_
+returns c =
+    let v = c .before .before .before in
+    untold (rw (← (v .before .bits .ensures), ← (v .read-version .ensures), c .before .refusal .given .1))
+
+returns-2 : tie.Need-returns-2
+unfolding payloadIn _>>=_ _>>_
+returns-2 c =
+    let n = c .before .before .before in
+    let v = n .before .before in
+    untold (rw (← (v .before .before .before .bits .ensures), ← (v .before .before .read-version .ensures), v .count-at .given .1, ← (n .read-object-count .ensures), c .before .refusal2 .given .1))
+
+returns-3 : tie.Need-returns-3
+unfolding payloadIn _>>=_ _>>_
+returns-3 c =
+    let k = c .before .before .before .before in
+    let n = k .before .before .before in
+    let v = n .before .before .before .before in
+    untold (rw (
+      ← (v .before .before .before .bits .ensures),
+      ← (v .before .before .read-version .ensures),
+      v .count-at .given .1,
+      ← (n .before .before .read-object-count .ensures),
+      n .count .given .1,
+      kinds-refused (rw (c .before .refusal3 .given .1) at (k .parse-program-assignment .ensures)),
+    ))
+
+returns-4 : tie.Need-returns-4
+unfolding payloadIn _>>=_ _>>_
+returns-4 c =
+    let b = c .before .before .before .before in
+    let x = b .before .before .before .before .before .before in
+    let k = x .before .before .before in
+    let n = k .before .before .before in
+    let v = n .before .before .before .before in
+    rw (
+      ← (v .before .before .before .bits .ensures),
+      ← (v .before .before .read-version .ensures),
+      v .count-at .given .1,
+      ← (n .before .before .read-object-count .ensures),
+      n .count .given .1,
+      kinds-read (rw (x .next .given .1) at (k .parse-program-assignment .ensures)),
+    )
+    (b .parse-body .ensures)
+
+counted : (c : tie.After-count) → (0 < c .count .given .0 .0) × (c .count .given .0 .0 ≤ 128)
+counted c = gives said object-count-le (c .before .before .read-object-count .ensures) (c .count .given .1)
+
+parse-program-assignment-requires : tie.Need-parse-program-assignment-requires
+parse-program-assignment-requires c κs = omega (arith, counted (c .before .before))
+
+parse-body-requires : tie.Need-parse-body-requires
+unfolding payloadLimit objectLimit
+parse-body-requires c κs =
+    let k = c .before .before .before .before .before .before .before .before in
+    let n = k .before .before .before in
+    let l = n .before .before .before .before .before .before .before in
+    let start = l .before .before .before in
+    let few = counted n in
+    let long = k .parse-program-assignment .ensures .long in
+    let size = l .bits .ensures in
+    let short = start .pre .0 in
+    (omega arith, (record { few = omega arith; there = omega arith }, (start .pre .1 .0, start .pre .1 .1)))
+
+pub parse-payload-spec : {M : Type 1} → statement M
+unfolding payloadLimit objectLimit
+parse-payload-spec =
+    tie.close
+    (tie.spec
+    (λ c κs. omega arith)
+    (λ c κs. search needs)
+    (λ c. search needs)
+    (λ c. search needs)
+    (λ c κs. search needs)
+    (λ c. search needs)
+    (λ c. search needs)
+    (λ c. search needs)
+    (λ c. search needs)
+    parse-program-assignment-requires
+    (λ c. search needs)
+    (λ c. search needs)
+    (λ c. search needs)
+    parse-body-requires
+    returns
+    returns-2
+    returns-3
+    (λ c. search needs)
+    (λ c. search needs)
+    (λ c. search needs)
+    returns-4)

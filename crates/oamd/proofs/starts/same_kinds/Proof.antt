@@ -1,0 +1,98 @@
+-- The kinds passed were the same: those left decide.
+use Prim.Native.Nat.{_-_}
+use mathlib.Core.Path.{_≡_, sym, _∙_}
+use native.Mathlib.Omega.{arith}
+use borrow.Author.Needs.{needs}
+use borrow.Author.Tests.{not-true, not-false}
+use lib.ListN.{length, getD}
+use Rattle.standard.specs.Numbers.{rowWidth, objectLimit, retainedHead, retainedLength}
+use Rattle.standard.specs.Tree.{lfe, kindCode}
+use Rattle.standard.specs.Rows.{noRow, is}
+use Rattle.standard.specs.Tables.{countOf, stateOf}
+use Rattle.rows.proofs.Tests.{back}
+use Rattle.objects.specs.Walk.{kindsIn}
+use Rattle.oamd.proofs.Matching.{Matching, unlike-lengths, match-none, match-kind, match-not, match-all}
+use Rattle.oamd.proofs.Starting.{rows-count, kinds-count, kind-tested}
+use Rattle.oamd.proofs.starts.same_kinds.Statement.{statement}
+use Rattle.oamd.proofs.starts.same_kinds.Tie as tie
+
+abbrev Inv-loop : tie.InvT-loop
+Inv-loop retained kinds object-count object₀ object = Matching (kindsIn object-count kinds) (stateOf retained .rows) object
+
+abbrev μ-loop : tie.MeasureT-loop
+μ-loop retained kinds object-count object₀ object = object-count - object
+
+kinds : (c : tie.Start Inv-loop μ-loop) → length (kindsIn (c .args .object-count) (c .args .kinds .now)) ≡ c .args .object-count
+kinds c = kinds-count (c .args .object-count) (c .args .kinds .now) (c .pre .1 .there)
+
+-- as many rows are retained as there are kinds
+counted : (c : tie.Else1 Inv-loop μ-loop) → countOf (c .before .before .before .args .retained .now) ≡ c .before .before .before .args .object-count
+counted c = sym (c .before .count-of .ensures .same) ∙ c .if1 .left
+
+as-many : (c : tie.Else1 Inv-loop μ-loop) →
+    let a = c .before .before .before .args in
+    length (stateOf (a .retained .now) .rows) ≡ length (kindsIn (a .object-count) (a .kinds .now))
+as-many c =
+    let start = c .before .before .before in
+    rows-count (start .args .retained .now) ∙ counted c ∙ sym (kinds start)
+
+-- what the test was of
+tested : (c : tie.After-is-kind Inv-loop μ-loop) →
+    let l = c .before .before .before .before in
+    let a = l .before .before .before .before .args in
+    is (kindCode (getD (kindsIn (a .object-count) (a .kinds .now)) (l .loop .object) lfe)) (getD (stateOf (a .retained .now) .rows) (l .loop .object) noRow .kind)
+    ≡ c .is-kind .result
+unfolding rowWidth retainedHead
+tested c =
+    let k = c .before .before in
+    let l = k .before .before in
+    let start = l .before .before .before .before in
+    let a = start .args in
+    kind-tested (a .object-count) (a .kinds .now) (start .pre .1 .there) (a .retained .now) (counted (l .before)) (l .loop .object) (k .before .loop-test .taken)
+    ∙ sym (rw (back (k .kind-at .result) (k .kind-at .ok), k .kind-at .ensures) at (c .is-kind .ensures))
+
+returns : tie.Need-returns Inv-loop μ-loop
+returns c =
+    let start = c .before .before .before in
+    let k = kinds start in
+    let n = rows-count (start .args .retained .now) in
+    sym (unlike-lengths _ _ (λ e. c .if1 .taken (omega arith)))
+
+returns-2 : tie.Need-returns-2 Inv-loop μ-loop
+returns-2 c =
+    let l = c .before .before .before .before .before in
+    let k = kinds (l .before .before .before .before) in
+    sym (match-not (as-many (l .before)) (l .loop .inv) (omega arith) (tested (c .before) ∙ not-true _ (c .if2 .taken)))
+
+loop-again : tie.Need-loop-again Inv-loop μ-loop
+loop-again c =
+    let l = c .before .before .before .before .before in
+    let k = kinds (l .before .before .before .before) in
+    match-kind (as-many (l .before)) (l .loop .inv) (omega arith) (tested (c .before) ∙ not-false _ (c .if2 .left))
+
+returns-3 : tie.Need-returns-3 Inv-loop μ-loop
+returns-3 c =
+    let l = c .before in
+    let k = kinds (l .before .before .before .before) in
+    sym (match-all (as-many (l .before)) (l .loop .inv) (omega arith))
+
+pub same-kinds-spec : {M : Type 1} → statement M
+unfolding rowWidth objectLimit retainedHead retainedLength
+same-kinds-spec =
+    tie.close
+    (tie.spec
+    Inv-loop
+    μ-loop
+    (λ c κs. c .before .pre .0 .countable)
+    returns
+    (λ c. match-none _ _)
+    (λ c. omega arith)
+    (λ c. omega arith)
+    (λ c κs. omega arith)
+    (λ c. omega arith)
+    (λ c κs. search needs)
+    returns-2
+    (λ c. omega arith)
+    (λ c. omega arith)
+    loop-again
+    returns-3)

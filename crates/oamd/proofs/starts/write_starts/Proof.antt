@@ -1,0 +1,80 @@
+-- Each turn writes the next start row.
+use Prim.Native.Nat.{_*_, _-_, _≤_}
+use mathlib.Core.Path.{_≡_, sym, _∙_}
+use native.Mathlib.Omega.{arith}
+use borrow.Author.Needs.{needs}
+use lib.ListN.{length, getD}
+use Rattle.standard.specs.Numbers.{rowWidth, objectLimit, startLength}
+use Rattle.standard.specs.Rows.{noRow}
+use Rattle.standard.specs.Meaning.{startRows}
+use Rattle.standard.specs.Tables.{stateOf}
+use Rattle.rows.specs.Say.{rowSaid}
+use Rattle.objects.specs.Walk.{kindsIn}
+use Rattle.oamd.proofs.StartRows.{Writing, write-none, write-long, write-row, write-all}
+use Rattle.oamd.proofs.Starting.{starts-count, start-found}
+use Rattle.oamd.proofs.starts.write_starts.Statement.{statement}
+use Rattle.oamd.proofs.starts.write_starts.Tie as tie
+
+abbrev Inv-loop : tie.InvT-loop
+Inv-loop retained kinds object-count start₀ held object₀ start object =
+    Writing (startRows (stateOf retained) (kindsIn object-count kinds)) start₀ object start
+
+abbrev μ-loop : tie.MeasureT-loop
+μ-loop retained kinds object-count start₀ held object₀ start object = object-count - object
+
+count : (c : tie.At-loop Inv-loop μ-loop) →
+    let a = c .before .before .before .args in
+    length (startRows (stateOf (a .retained .now)) (kindsIn (a .object-count) (a .kinds .now))) ≡ a .object-count
+count c =
+    let start = c .before .before .before in
+    starts-count (start .args .object-count) (start .args .kinds .now) (start .pre .1 .0 .there) (start .args .retained .now)
+
+fits : (c : tie.At-loop Inv-loop μ-loop) →
+    let a = c .before .before .before .args in
+    length (startRows (stateOf (a .retained .now)) (kindsIn (a .object-count) (a .kinds .now))) * rowWidth ≤ length (a .start .now)
+unfolding rowWidth objectLimit startLength
+fits c =
+    let p = c .before .before .before .pre .1 in
+    let few = p .0 .few in
+    let long = p .1 in
+    let n = count c in
+    omega arith
+
+-- the row that was found is the next one
+found : (c : tie.After-start-row Inv-loop μ-loop) →
+    let l = c .before .before .before in
+    let a = l .before .before .before .args in
+    rowSaid (c .start-row .result) ≡ getD (startRows (stateOf (a .retained .now)) (kindsIn (a .object-count) (a .kinds .now))) (l .loop .object) noRow
+found c =
+    let l = c .before .before .before in
+    let start = l .before .before .before in
+    c .start-row .ensures
+    ∙ rw (l .before .same-kinds .ensures) (sym (start-found (start .args .object-count) (start .args .kinds .now) (start .pre .1 .0 .there) (start .args .retained .now) (l .loop .object) (c .before .before .loop-test .taken)))
+
+loop-again : tie.Need-loop-again Inv-loop μ-loop
+unfolding rowWidth
+loop-again c =
+    let r = c .before .before .before in
+    let l = r .before .before .before in
+    let h = r .before .before .loop-test .taken in
+    let n = count l in
+    rw (c .before .put-row .ensures, found r) (write-row (fits l) (l .loop .inv) (omega arith))
+
+pub write-starts-spec : {M : Type 1} → statement M
+unfolding rowWidth objectLimit startLength
+write-starts-spec =
+    tie.close
+    (tie.spec
+    Inv-loop
+    μ-loop
+    (λ c κs. search needs)
+    (λ c. write-none _ _)
+    (λ c. omega arith)
+    (λ c κs. search needs)
+    (λ c. omega arith)
+    (λ c κs. let l = c .before .before .before .before in omega (arith, write-long (fits l) (l .loop .inv)))
+    (λ c. omega arith)
+    (λ c. omega arith)
+    loop-again
+    (λ c. write-long (fits (c .before)) (c .before .loop .inv))
+    (λ c. write-all (fits (c .before)) (c .before .loop .inv) (omega (arith, count (c .before)))))

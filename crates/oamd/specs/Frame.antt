@@ -1,0 +1,80 @@
+-- Reading the elements and writing the frame tables at once, as the code does.
+use Prim.Native.Nat.{ℕ, zero, suc, _+_, _*_, _-_}
+use mathlib.Core.Bool.{Bool, cond}
+use mathlib.Core.List.{List, []}
+use mathlib.Core.Option.{Option, none, some}
+use lib.Dec.{leb, eqb}
+use lib.IntN.{ℤ}
+use lib.ListN.{length}
+use Rattle.bits.specs.Parsed.{Parser, _>>=_, _>>_, mapP, pure, refuse, within, here, theEnd, goTo, require, truncated, invalid}
+use Rattle.bits.specs.Reads.{read, flag, padding}
+use Rattle.standard.specs.Contexts as context
+use Rattle.standard.specs.Tree.{Kind, Tree}
+use Rattle.standard.specs.Rows.{Row}
+use Rattle.standard.specs.Meaning.{allRows}
+use Rattle.standard.specs.Tables.{rowsNumbers, byBlock, timingNumbers}
+use Rattle.standard.specs.Calls.{over}
+use Rattle.standard.specs.Syntax.{objectElement, trim, elementSize, alternate}
+
+-- the number of blocks, once an object element was read, and the frame tables
+pub record Frame : Type 0 where
+  pub found : Option ℕ
+  pub blocks : List ℤ
+  pub timings : List ℕ
+
+-- what a tree writes into the frame tables, after these start rows
+unfoldable pub writtenBy : List Row → Frame → Tree → Frame
+writtenBy starts f t =
+    let m = length (t .timings) in
+    record {
+      found = some m;
+      blocks = over (rowsNumbers (byBlock m 0 (allRows (t .objects) starts []))) (f .blocks);
+      timings = over (timingNumbers (t .timings)) (f .timings);
+    }
+
+unfoldable pub onceIn : List Row → List Kind → ℕ → Option ℕ → Frame → Parser Frame
+onceIn starts kinds at none f = mapP (writtenBy starts f) (objectElement kinds)
+onceIn starts kinds at (some m) f = refuse (invalid context.duplicate-object-element at)
+
+-- the rest of an element that was read is zero
+unfoldable pub endIn : Frame → Parser Frame
+endIn f = do
+  padding context.element-padding
+  pure f
+
+unfoldable pub objectIn : List Row → List Kind → ℕ → Frame → Parser Frame
+objectIn starts kinds at f = do
+  f′ ← onceIn starts kinds at (f .found) f
+  endIn f′
+
+unfoldable pub trimIn : ℕ → Frame → Parser Frame
+trimIn count f = do
+  trim count
+  endIn f
+
+unfoldable pub contentIn : List Row → List Kind → ℕ → ℕ → Frame → Parser Frame
+contentIn starts kinds at id f = cond (eqb id 1) (objectIn starts kinds at f) (cond (eqb id 2) (trimIn (length kinds) f) (pure f))
+
+unfoldable pub insideIn : List Row → Bool → List Kind → ℕ → ℕ → Frame → Parser Frame
+insideIn starts alternated kinds at id f = do
+  alternate alternated
+  flag context.discard-unknown-element-flag
+  contentIn starts kinds at id f
+
+unfoldable pub elementIn : List Row → Bool → List Kind → Frame → Parser Frame
+elementIn starts alternated kinds f = do
+  at ← here
+  id ← read 4 context.element-id
+  bytes ← elementSize
+  start ← here
+  end ← theEnd
+  require (leb (start + bytes * 8) end) (truncated context.element start (bytes * 8) (end - start))
+  f′ ← within (start + bytes * 8) (insideIn starts alternated kinds at id f)
+  goTo (start + bytes * 8)
+  pure f′
+
+unfoldable pub elementsIn : List Row → ℕ → Bool → List Kind → Frame → Parser Frame
+elementsIn starts zero alternated kinds f = pure f
+elementsIn starts (suc n) alternated kinds f = do
+  f′ ← elementIn starts alternated kinds f
+  elementsIn starts n alternated kinds f′

@@ -1,0 +1,9 @@
+pub mod Frame
+pub mod Whole
+pub mod Trim
+pub mod Say
+pub mod Reading
+pub mod Asked
+pub mod Telling
+pub mod Ends
+pub mod Promises

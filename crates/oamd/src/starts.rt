@@ -1,0 +1,78 @@
+// The start rows: the retained rows if the kinds equal the retained kinds, else default rows.
+ghost use mathlib.Core.Path.{_≡_};
+ghost use mathlib.Core.Bool.{cond};
+ghost use Prim.Native.Nat.{_+_, _*_, _<_, _≤_};
+ghost use lib.IntN.{pos};
+ghost use lib.ListN.{length, getD};
+ghost use Rattle.standard.specs.Numbers.{rowWidth, objectLimit, retainedHead, startLength};
+ghost use Rattle.standard.specs.Tree.{kindCode};
+ghost use Rattle.standard.specs.Rows.{is};
+ghost use Rattle.standard.specs.Meaning.{heldRow, defaultRow, sameKinds, startRows};
+ghost use Rattle.standard.specs.Tables.{rowsNumbers, stateOf};
+ghost use Rattle.standard.specs.Calls.{over};
+ghost use Rattle.rows.specs.Say.{rowSaid};
+ghost use Rattle.rows.specs.Places.{rowAt};
+ghost use Rattle.update.specs.Kinds.{kindOf};
+ghost use Rattle.objects.specs.Walk.{kindsIn};
+ghost use Rattle.oamd.specs.Asked.{Held, Coded};
+use rows::numbers::RETAINED_HEAD;
+use rows::numbers::ROW_WIDTH;
+use rows::retained::count_of;
+use rows::row::DYNAMIC;
+use rows::row::Row;
+use rows::table::kind_at;
+use rows::table::put_row;
+use rows::table::row_at;
+use update::default_row;
+use update::held_row;
+
+pub fn write_starts(retained: &[i16], kinds: &[u8], object_count: usize, start: &mut [i16])
+    requires { ⌜ Held (now retained) × (Coded «object_count» (now kinds) × (startLength ≤ length (now start))) ⌝ }
+    ensures { λ _. ⌜ now (start .exit) ≡ over (rowsNumbers (startRows (stateOf (now (retained .entry))) (kindsIn «object_count» (now (kinds .entry))))) (now (start .entry)) ⌝ }
+{
+    let held = same_kinds(retained, kinds, object_count);
+    for object in 0..object_count {
+        let row = start_row(retained, object, kinds[object], held);
+        put_row(start, object * ROW_WIDTH, row);
+    }
+}
+
+fn same_kinds(retained: &[i16], kinds: &[u8], object_count: usize) -> bool
+    requires { ⌜ Held (now retained) × Coded «object_count» (now kinds) ⌝ }
+    ensures { λ r. ⌜ r ≡ sameKinds (kindsIn «object_count» (now (kinds .entry))) (stateOf (now (retained .entry)) .rows) ⌝ }
+{
+    if count_of(retained) != object_count {
+        return false;
+    }
+    for object in 0..object_count {
+        let kind = kind_at(retained, RETAINED_HEAD + object * ROW_WIDTH);
+        if !is_kind(kind, kinds[object]) {
+            return false;
+        }
+    }
+    true
+}
+
+// Any code above the fixed kinds is Dynamic.
+fn is_kind(kind: i16, code: u8) -> bool
+    ensures { λ r. ⌜ r ≡ is (kindCode (kindOf code)) kind ⌝ }
+{
+    if code < DYNAMIC as u8 {
+        kind == code as i16
+    } else {
+        kind == DYNAMIC
+    }
+}
+
+// The row that an object begins after: the retained one, where it is held.
+fn start_row(retained: &[i16], object: usize, kind: u8, held: bool) -> Row
+    requires { ⌜ Held (now retained) × (object < objectLimit) ⌝ }
+    ensures { λ r. ⌜ rowSaid r ≡ cond held (heldRow (getD (now (retained .entry)) 1 (pos 0)) (rowAt (now (retained .entry)) (retainedHead + object * rowWidth))) (defaultRow (getD (now (retained .entry)) 1 (pos 0)) (kindOf kind)) ⌝ }
+{
+    let doubt = retained[1];
+    if held {
+        let row = row_at(retained, RETAINED_HEAD + object * ROW_WIDTH);
+        return held_row(row, doubt);
+    }
+    default_row(kind, doubt)
+}

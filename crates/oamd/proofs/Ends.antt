@@ -37,7 +37,7 @@ use Rattle.oamd.specs.Promises.{lent, Left}
 use Rattle.oamd.specs.declared.decoder.Frame.{Frame}
 use Rattle.oamd.specs.declared.decoder.Decoded.the-variants.{Accepted, Refused, Unread}
 use Rattle.oamd.proofs.Telling.{Tells, refusal-told, sized-tree}
-use Rattle.oamd.proofs.RefusalNumbers.{refusal-number}
+use Rattle.standard.proofs.Bounds.{bounded}
 
 -- Tests 5, 6 and 7
 
@@ -165,7 +165,7 @@ module _ (s : List ℕ) (l : Lent) (z : Refusal) where
       let f = refusal-told (stateOf (l .retained)) (lending (l .start) (l .blocks) (l .timings)) s e in
       rw f (record {
         answer = refl;
-        itsCase = refusal-number s f;
+        itsCase = (bounded s f .above, bounded s f .below);
         retained = refl;
         start = c .itsStart ∙ cleared-same (pos 0) startLength s′ (l .start) rest;
         blocks = c .itsBlocks ∙ cleared-same (pos 0) blocksLength b′ (l .blocks) (behind .blocksRest);

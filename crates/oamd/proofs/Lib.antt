@@ -7,6 +7,5 @@ pub mod StartRows
 pub mod Matching
 pub mod Starting
 pub mod Telling
-pub mod RefusalNumbers
 pub mod Ends
 pub mod Determined

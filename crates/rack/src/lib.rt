@@ -1,9 +1,13 @@
 // The library that a rack's processor links: each public call under its C name, and nothing else.
+ghost use mathlib.Core.Path.{_≡_};
 ghost use Rattle.standard.specs.Calls as calls;
 ghost use Rattle.rows.specs.Promises as rows;
 ghost use Rattle.oamd.specs.Promises.{lent};
-ghost use Rattle.rack.specs.Twins.{DecodeLeft};
+ghost use Rattle.rack.specs.Twins.{DecodeLeft, RampLeft, ShownLeft};
 use oamd::decoder::Decoded;
+use shown::view::Gain;
+use shown::view::View;
+use timing::ramps::Ramp;
 
 // A decoding: the answer is context, place, objects, blocks, unsettled.
 #[no_mangle]
@@ -47,4 +51,83 @@ pub extern "C" fn oamd_gap(retained: &mut [i16]) -> u32
     ensures { λ r. ⌜ rows.Left (calls.gap (now (retained .entry))) r (now (retained .exit)) ⌝ }
 {
     rows::calls::gap(retained)
+}
+
+// The timing test of a frame's blocks.
+#[no_mangle]
+pub extern "C" fn oamd_timing(timings: &[u16], blocks: u32) -> u32
+    ensures { λ r. ⌜ r ≡ calls.timingCall (now (timings .entry)) blocks ⌝ }
+{
+    timing::calls::timing(timings, blocks)
+}
+
+// The ramp at a sample: the answer is from, to, elapsed, duration.
+#[no_mangle]
+pub extern "C" fn oamd_ramp(
+    timings: &[u16],
+    blocks: u32,
+    sample: u32,
+    answer: &mut [u32; 4],
+    fraction: &mut f32,
+) -> u32
+    ensures { λ r. ⌜ RampLeft (calls.rampCall (now (timings .entry)) blocks sample) r (now (answer .exit)) (now (fraction .exit)) ⌝ }
+{
+    match timing::calls::ramp(timings, blocks, sample) {
+        Ramp::Chosen(choice, alpha) => {
+            *answer = [
+                choice.from,
+                choice.to,
+                choice.elapsed as u32,
+                choice.duration as u32,
+            ];
+            *fraction = alpha;
+            0
+        }
+        Ramp::Refused(number) => {
+            *answer = [0, 0, 0, 0];
+            *fraction = 0.0;
+            number
+        }
+    }
+}
+
+// Whether the row at an index can be shown.
+#[no_mangle]
+pub extern "C" fn oamd_row(table: &[i16], index: u32) -> u32
+    ensures { λ r. ⌜ r ≡ calls.rowNumber (now (table .entry)) index ⌝ }
+{
+    rows::calls::row_number(table, index as usize)
+}
+
+// What is shown of a row: x, y, z, width, depth, height, priority, decibels. Silence has no decibels, but a 0.
+#[no_mangle]
+pub extern "C" fn oamd_shown(
+    table: &[i16],
+    index: u32,
+    values: &mut [f32; 8],
+    silent: &mut u32,
+) -> u32
+    ensures { λ r. ⌜ ShownLeft (calls.shownCall (now (table .entry)) index) r (now (values .exit)) (now (silent .exit)) ⌝ }
+{
+    match shown::calls::shown(table, index as usize) {
+        View::Row(s) => {
+            let gain = s.gain;
+            match gain {
+                Gain::Silence => {
+                    *values = [s.x, s.y, s.z, s.width, s.depth, s.height, s.priority, 0.0];
+                    *silent = 1;
+                }
+                Gain::Decibels(level) => {
+                    *values = [s.x, s.y, s.z, s.width, s.depth, s.height, s.priority, level];
+                    *silent = 0;
+                }
+            }
+            0
+        }
+        View::Refused(number) => {
+            *values = [0.0, 0.0, 0.0, 0.0, 0.0, 0.0, 0.0, 0.0];
+            *silent = 1;
+            number
+        }
+    }
 }

@@ -1,0 +1,226 @@
+/*
+ * Cepokaran: a decoder for the object metadata (OAMD) of E-AC-3, for C.
+ *
+ * Seven calls over tables that the caller lends. No call allocates, keeps a pointer, prints or has
+ * state of its own: everything that a decoder remembers lies in the table `retained`. So one
+ * `retained` table is one decoder, and calls on tables of their own may run at the same time.
+ *
+ * Each call always returns, for every payload, index and content of the tables, and what it returns
+ * and leaves is proved to be what this page says. Of the caller it asks only what C itself cannot
+ * check:
+ *
+ *   - A pointer is non-null and aligned for its type, also where its length is 0.
+ *   - A length counts numbers, not bytes (for the payload the two are the same). As many lie behind
+ *     the pointer, in one object, and are initialised.
+ *   - What a call may write (a pointer without `const`) overlaps nothing else that the call is given,
+ *     and nobody else reads or writes it meanwhile. What it only reads does not change meanwhile.
+ *
+ * A call returns one number of `enum cepokaran_number`; 0 is accepted. On any other number every
+ * further number and float that it hands back is 0, and a gain is silence. Only decode's context and
+ * place say more. A table may be longer than needed: what lies behind the needed length never changes.
+ *
+ * examples/c/rack_loop.c is a rack's loop over these calls.
+ */
+#ifndef CEPOKARAN_H
+#define CEPOKARAN_H
+
+#include <stddef.h>
+#include <stdint.h>
+
+#ifdef __cplusplus
+extern "C" {
+#endif
+
+/* ---- Sizes ----------------------------------------------------------------------------------- */
+
+enum {
+    CEPOKARAN_ROW_WIDTH = 15,       /* numbers in a row */
+    CEPOKARAN_OBJECT_LIMIT = 128,   /* objects in a frame, at most */
+    CEPOKARAN_BLOCK_LIMIT = 8,      /* blocks in a frame, at most */
+    CEPOKARAN_FRAME_LENGTH = 1536,  /* samples in a frame */
+    CEPOKARAN_PAYLOAD_LIMIT = 16384 /* bytes in a payload, at most */
+};
+
+/* Lengths that the tables need, whatever the payload. */
+enum {
+    CEPOKARAN_RETAINED_LENGTH = 1922, /* object count, doubt, 128 rows */
+    CEPOKARAN_START_LENGTH = 1920,    /* 128 rows: object o is row o */
+    CEPOKARAN_BLOCKS_LENGTH = 15360,  /* 8 x 128 rows: block b, object o is row b * objects + o */
+    CEPOKARAN_TIMINGS_LENGTH = 16     /* start and ramp of block b, in samples, at 2 * b and 2 * b + 1 */
+};
+
+/* ---- A row: what is said of one object at one time ------------------------------------------- */
+
+/* The place of each number in a row. */
+enum {
+    CEPOKARAN_KIND = 0,      /* one of the kinds below */
+    CEPOKARAN_ACTIVE = 1,    /* 0 or 1; an inactive row has gain -128 and priority 0 */
+    CEPOKARAN_GAIN = 2,      /* decibels, -49 to 15; or CEPOKARAN_SILENCE */
+    CEPOKARAN_PRIORITY = 3,  /* 0 to 32, in 32nds */
+    CEPOKARAN_X = 4,         /* 0 to 62, in 62nds */
+    CEPOKARAN_Y = 5,         /* 0 to 62, in 62nds */
+    CEPOKARAN_Z = 6,         /* -15 to 15, in 15ths */
+    CEPOKARAN_WIDTH = 7,     /* 0 to 31, in 31sts */
+    CEPOKARAN_DEPTH = 8,     /* 0 to 31, in 31sts */
+    CEPOKARAN_HEIGHT = 9,    /* 0 to 31, in 31sts */
+    CEPOKARAN_SCREEN = 10,   /* 0 or 1: the screen-reference flag */
+    CEPOKARAN_LOCK = 11,     /* 0 or 1: the object-snap flag */
+    CEPOKARAN_ZONE = 12,     /* 0 to 5: the zone-constraints index */
+    CEPOKARAN_ELEVATION = 13,/* 0 or 1: the elevation-enabled flag */
+    CEPOKARAN_MARK = 14      /* 1 settled, 0 unsettled: see oamd_decode */
+};
+
+enum cepokaran_kind {
+    CEPOKARAN_LFE = 0,
+    CEPOKARAN_BED = 1,
+    CEPOKARAN_ISF = 2,
+    CEPOKARAN_DYNAMIC = 3 /* the only kind whose picture (x to elevation) is not the default */
+};
+
+enum { CEPOKARAN_SILENCE = -128 }; /* the gain of minus infinity */
+
+/* ---- Numbers given back ---------------------------------------------------------------------- */
+
+enum cepokaran_number {
+    CEPOKARAN_ACCEPTED = 0,
+    CEPOKARAN_TRUNCATED = 1,   /* the payload ends too early */
+    CEPOKARAN_INVALID = 2,     /* the payload says what may not be said */
+    CEPOKARAN_LIMIT = 3,       /* the payload passes a limit of the format */
+    CEPOKARAN_UNSUPPORTED = 4, /* the payload says what this decoder does not take */
+    CEPOKARAN_ROOM = 5,        /* a table is shorter than needed */
+    CEPOKARAN_FORM = 6,        /* the retained table, or the row to be shown, is not in form */
+    CEPOKARAN_SIZE = 7,        /* the payload is longer than CEPOKARAN_PAYLOAD_LIMIT */
+    CEPOKARAN_ORDERING = 8,    /* timings: a start falls below the one before it */
+    CEPOKARAN_OVERLAP = 9,     /* timings: a block starts before the one before it has ended */
+    CEPOKARAN_CROSS_FRAME = 10,/* timings: a start or an end lies behind the frame */
+    CEPOKARAN_QUERY = 11,      /* asked of a sample over 1,535 or of more than 8 blocks */
+    CEPOKARAN_INDEX = 12       /* the row lies outside its table */
+};
+
+/* ---- The retained table ---------------------------------------------------------------------- */
+
+/* Number 0 is the object count, number 1 the doubt (1 after a gap notice), and then come the rows of
+ * the last block that was accepted. All zeros is a fresh decoder. A table that starts fresh and is
+ * written by these calls alone is in form for ever; it may be stored, copied and compared as it is. */
+enum { CEPOKARAN_OBJECT_COUNT = 0, CEPOKARAN_DOUBT = 1, CEPOKARAN_RETAINED_HEAD = 2 };
+
+/*
+ * Makes a fresh decoder: the first 1,922 numbers become 0, whatever they were.
+ * Refused, and nothing changes: ROOM.
+ */
+uint32_t oamd_reset(int16_t *retained, size_t retained_len);
+
+/*
+ * A gap notice: payloads may have been missed. The doubt becomes 1, and nothing else changes. Give
+ * it before the first payload after a power dip, a seek, or a lost frame.
+ * Refused in this order, and nothing changes: ROOM, FORM.
+ */
+uint32_t oamd_gap(int16_t *retained, size_t retained_len);
+
+/* ---- Decode ---------------------------------------------------------------------------------- */
+
+/* The place of each number in decode's answer. */
+enum {
+    CEPOKARAN_CONTEXT = 0,  /* refused by 1 to 4: which field, by the list in docs/CONTEXTS.md */
+    CEPOKARAN_PLACE = 1,    /* refused by 1 to 4: its bit, counted from the payload's first */
+    CEPOKARAN_OBJECTS = 2,  /* accepted: how many objects, 1 to 128 */
+    CEPOKARAN_BLOCKS = 3,   /* accepted: how many blocks, 1 to 8 */
+    CEPOKARAN_UNSETTLED = 4,/* accepted: how many rows of the last block have mark 0 */
+    CEPOKARAN_ANSWER_LENGTH = 5
+};
+
+/*
+ * Decodes one payload.
+ *
+ * Refused in this order, and no table changes: ROOM (any of the four tables), FORM (retained), SIZE.
+ * Then the payload is read. Refused by TRUNCATED, INVALID, LIMIT or UNSUPPORTED: context and place
+ * say where; retained is unchanged; the needed length of start, blocks and timings is set to 0.
+ *
+ * Accepted: the frame has objects and blocks. Written are `objects` rows of start (how each object
+ * stands before the first block), blocks * objects rows of blocks, and 2 * blocks numbers of timings;
+ * the rest of these tables is unchanged. Retained becomes the last block's rows, without doubt.
+ *
+ * A row's mark says what to believe after payloads were missed and a gap notice was given for them.
+ * What is settled is what a decoder would hold that missed nothing. In a block row the mark stands for
+ * x to elevation; kind, active, gain and priority are such anyway. In a start row it stands for all but
+ * the kind. A block row is settled once a payload tells the whole of its picture. Without a gap notice
+ * since the decoder was fresh, every row is settled.
+ *
+ * The timings are not tested here: oamd_timing does that, and undoes nothing.
+ */
+uint32_t oamd_decode(const uint8_t *payload, size_t payload_len,
+                     int16_t *retained, size_t retained_len,
+                     int16_t *start, size_t start_len,
+                     int16_t *blocks, size_t blocks_len,
+                     uint16_t *timings, size_t timings_len,
+                     uint32_t answer[5]);
+
+/* ---- Timings and ramps ----------------------------------------------------------------------- */
+
+/*
+ * Tests the timings of a frame; 0 says that a renderer may play them. It only reads.
+ * Refused in this order: QUERY (more than 8 blocks), ROOM (fewer than 2 * blocks numbers), ORDERING
+ * (a start falls anywhere), then block by block OVERLAP before CROSS_FRAME.
+ *
+ * A refusal says that this frame's ramps cannot be played. The frame stays decoded: its rows are
+ * retained, and the next payload goes on from them. Do not restore an older retained table.
+ */
+uint32_t oamd_timing(const uint16_t *timings, size_t timings_len, uint32_t blocks);
+
+/* The place of each number in ramp's answer. */
+enum {
+    CEPOKARAN_FROM = 0,     /* row number: 0 is the start row, b + 1 the row of block b */
+    CEPOKARAN_TO = 1,       /* row number */
+    CEPOKARAN_ELAPSED = 2,  /* samples since the ramp began; 1 where a row stands still */
+    CEPOKARAN_DURATION = 3, /* samples that the ramp takes; 1 where a row stands still */
+    CEPOKARAN_RAMP_LENGTH = 4
+};
+
+/*
+ * Between which two rows of each object a sample of the frame lies, and which part of the way is
+ * gone: 0 is the row `from`, 1 the row `to`. The answer is given for any timings, also for those that
+ * oamd_timing refuses. The fraction is elapsed / duration in one f32 division, and is below 1 exactly
+ * when elapsed < duration. A row that stands still is from = to, 1 / 1.
+ * Refused in this order: QUERY (a sample over 1,535, or more than 8 blocks), ROOM (fewer than
+ * 2 * blocks numbers). Then all four numbers and the fraction are 0.
+ */
+uint32_t oamd_ramp(const uint16_t *timings, size_t timings_len, uint32_t blocks, uint32_t sample,
+                   uint32_t answer[4], float *fraction);
+
+/* ---- Rows ------------------------------------------------------------------------------------ */
+
+/*
+ * Tells whether row `index` of a table of rows (start or blocks) can be shown. On 0 the row is the
+ * 15 numbers from table + 15 * index. It only reads.
+ * Refused in this order: INDEX (the row is not wholly inside the table), FORM.
+ * A row that decode wrote is never refused by FORM.
+ */
+uint32_t oamd_row(const int16_t *table, size_t table_len, uint32_t index);
+
+/* The place of each float in what is shown. */
+enum {
+    CEPOKARAN_SHOWN_X = 0,        /* x / 62 */
+    CEPOKARAN_SHOWN_Y = 1,        /* y / 62 */
+    CEPOKARAN_SHOWN_Z = 2,        /* z / 15 */
+    CEPOKARAN_SHOWN_WIDTH = 3,    /* width / 31 */
+    CEPOKARAN_SHOWN_DEPTH = 4,    /* depth / 31 */
+    CEPOKARAN_SHOWN_HEIGHT = 5,   /* height / 31 */
+    CEPOKARAN_SHOWN_PRIORITY = 6, /* priority / 32 */
+    CEPOKARAN_SHOWN_DECIBELS = 7, /* the gain; +0 where it is silence */
+    CEPOKARAN_SHOWN_LENGTH = 8
+};
+
+/*
+ * What is shown of row `index` of a table of rows, each float by one f32 division; an Lfe always
+ * stands at (-1, 1, -1). `silent` is 1 where the gain is silence, else 0: read it before the
+ * decibels. The mark is not among the floats: see table[15 * index + CEPOKARAN_MARK].
+ * Refused in this order: INDEX, FORM, as oamd_row. Then all floats are +0, and silent is 1.
+ */
+uint32_t oamd_shown(const int16_t *table, size_t table_len, uint32_t index,
+                    float values[8], uint32_t *silent);
+
+#ifdef __cplusplus
+}
+#endif
+
+#endif

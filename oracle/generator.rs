@@ -15,6 +15,16 @@ pub struct Options {
     pub short: bool,
 }
 
+/// A valid payload of so many objects, an Lfe first and the others Dynamic.
+pub fn payload_of(random: &mut Random, objects: u32) -> Vec<u8> {
+    let assignment = Assignment::OnlyDynamic {
+        lfe: true,
+        count: objects,
+    };
+    let payload = Payload::random(random, &assignment, Purpose::Short);
+    payload.assembled().into_bytes()
+}
+
 pub struct Generator {
     random: Random,
     options: Options,

@@ -72,7 +72,7 @@ fn parse_object(
         let gain = gain_before(blocks, object_count, block, object);
         match parse_update(payload, limit, place, kind, block == 0, gain, row) {
             Updated::Refused(refusal) => return Passed::Refused(refusal),
-            Updated::Row(state, next) => {
+            Updated::Row(next, state) => {
                 put_row(blocks, row_place(object_count, block, object), state);
                 row = state;
                 place = next;

@@ -19,7 +19,7 @@ use Rattle.standard.specs.Updates.{bit, gainWord, priorityWord, basic, position
 use Rattle.standard.specs.Rows.{Row}
 use Rattle.standard.specs.Marks.{isSome, absolutelySaid, settles, settlesAll, newMark, rowMark}
 use Rattle.standard.specs.Meaning.{orBefore, gainSaid, newGain, newPosition, newPicture, rowPicture, updated}
-use Rattle.update.specs.Passes.{withGain, withPriority, withPicture, withMark, placed as placedAnew, withZone, withSize, withScreen, begun, gainPass, priorityPass, levelsPass, basicPass, pastDistance, placePass, positionPass, zonePass, sizePass, screenPass, lockPass, groupsPass, renderPass, statePass, rowPass}
+use Rattle.update.specs.Passes.{withGain, withPriority, withPicture, withMark, placed as placedAnew, withZone, withSize, withScreen, begun, gainPass, priorityPass, levelsPass, basicPass, partsRead, stepsRead, pastDistance, placePass, positionPass, zonePass, sizePass, screenPass, lockPass, groupsPass, renderPass, statePass, rowPass}
 use Rattle.bits.proofs.Makes.{Makes, given as gives, choose, from-here, mapped, bind-such, bind, after, next, last, at-place, word, said}
 
 -- a word is there where it was asked for
@@ -45,7 +45,7 @@ abbrev basicRow : ℤ → Row → Basic → Row
 basicRow g r b = withPriority (orBefore (b .priority) (r .priority)) (withGain (newGain g (b .gain) (r .gain)) r)
 
 basic-made : (g : ℤ) (r : Row) (at status : ℕ) → Makes (basicRow g r) (basic at status) (basicPass g status r)
-unfolding basic basicPass levelsPass newGain gainSaid
+unfolding basic basicPass partsRead levelsPass newGain gainSaid
 basic-made g r at status =
     choose (eqb status 0) (gives _)
     (choose (eqb status 2) (gives _)
@@ -59,7 +59,7 @@ module _ (flags : ℕ) (r : Row) where
   placedRow o = placedAnew (newPosition o (r .picture .position)) (absolutelySaid o && eqb (flags % 8) 7) r
 
   position-made : (first : Bool) → Makes placedRow (optional (isSet 3 flags) (placed (positionWord first))) (positionPass first flags r)
-  unfolding positionPass newPosition positionWord placePass pastDistance
+  unfolding positionPass stepsRead newPosition positionWord placePass pastDistance
   position-made first = said _ (isSet 3 flags) (at-place (after _ _ _ λ d. after _ _ _ λ w. next _ (gives w)))
 
   zone-made : Makes (λ o. withZone (orBefore o (r .picture .zone)) r) (optional (isSet 2 flags) (placed zoneWord)) (zonePass flags r)
@@ -101,7 +101,7 @@ module _ (first : Bool) (r : Row) where
       last _ (word _ _) λ l. rw (hz, hn, hs, lowest-set (absolutelySaid p) flags)
 
   render-made : (at status : ℕ) → Makes (renderRow r) (render first at status) (renderPass first status r)
-  unfolding render renderPass newPicture newMark settlesAll settles
+  unfolding render renderPass partsRead newPicture newMark settlesAll settles
   render-made at status =
       choose (eqb status 0) (gives _)
       (choose (eqb status 2) (gives _)

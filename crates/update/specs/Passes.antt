@@ -62,6 +62,10 @@ module _ {A : Type 0} where
   abbrev pub ifSaid : Bool → Parser A → (A → Row) → Row → Parser Row
   ifSaid b m f r = cond b (mapP f m) (pure r)
 
+-- which parts are said: status 1 says all, and no flags
+unfoldable pub partsRead : ℕ → ℕ → ℕ → ℕ → Parser ℕ
+partsRead status all width c = cond (eqb status 1) (pure all) (read width c)
+
 -- Basic information; g: the preceding object's gain in this block
 
 unfoldable pub gainPass : ℤ → ℕ → Row → Parser Row
@@ -80,7 +84,7 @@ unfoldable pub basicPass : ℤ → ℕ → Row → Parser Row
 basicPass g status r =
     cond (eqb status 0) (pure (silenced r))
     (cond (eqb status 2) (pure r) do
-      flags ← cond (eqb status 1) (pure 3) (read 2 context.mixed-basic-info-flags)
+      flags ← partsRead status 3 2 context.mixed-basic-info-flags
       levelsPass g flags r)
 
 -- Render information
@@ -100,11 +104,15 @@ pastDistance r = do
 unfoldable pub placePass : ℕ → Row → Parser PositionWord → Parser Row
 placePass flags r word = word >>= λ w. pastDistance (placedBy flags r w)
 
+-- whether a position is by steps; in block 0 it is not
+unfoldable pub stepsRead : Bool → Parser Bool
+stepsRead first = cond first (pure false) (flag context.differential-position-flag)
+
 unfoldable pub positionPass : Bool → ℕ → Row → Parser Row
 positionPass first flags r =
     cond (isSet 3 flags)
     (do
-      d ← cond first (pure false) (flag context.differential-position-flag)
+      d ← stepsRead first
       placePass flags r (cond d differential absolutely))
     (pure r)
 
@@ -145,7 +153,7 @@ unfoldable pub renderPass : Bool → ℕ → Row → Parser Row
 renderPass first status r =
     cond (eqb status 0) (pure (reset r))
     (cond (eqb status 2) (pure r) do
-      flags ← cond (eqb status 1) (pure 15) (read 4 context.mixed-render-info-flags)
+      flags ← partsRead status 15 4 context.mixed-render-info-flags
       groupsPass first flags r)
 
 -- One object in one block

@@ -7,5 +7,5 @@ use Rattle.update.specs.declared.Updated.{Updated}
 use Rattle.update.specs.declared.Updated.the-variants as updated
 
 abbrev pub saidRow : Updated → Parsed rows.Row
-saidRow (updated.Row r p) = got (rowSaid r) (p .0)
+saidRow (updated.Row p r) = got (rowSaid r) (p .0)
 saidRow (updated.Refused r) = refused (refusal r)

@@ -12,6 +12,7 @@ use crate::contexts::MIXED_BASIC_INFO_FLAGS;
 use crate::contexts::OBJECT_GAIN;
 use crate::contexts::OBJECT_GAIN_INDEX;
 use crate::contexts::OBJECT_PRIORITY;
+use crate::read_parts;
 use crate::state::SILENCE;
 use crate::state::is_set;
 use crate::state::silenced;
@@ -36,10 +37,9 @@ pub fn parse_basic_info(
     ensures { λ r. ⌜ saidRow r ≡ pass.basicPass (previous .0) status (rowSaid row) (now (payload .entry)) (limit .0) (at .0) ⌝ }
 {
     match status {
-        0 => Updated::Row(silenced(row), at),
-        1 => parse_levels(payload, limit, at, 0b11, row, previous),
-        2 => Updated::Row(row, at),
-        _ => match bits::read(payload, limit, at, 2, MIXED_BASIC_INFO_FLAGS) {
+        0 => Updated::Row(at, silenced(row)),
+        2 => Updated::Row(at, row),
+        _ => match read_parts(payload, limit, at, status, 0b11, 2, MIXED_BASIC_INFO_FLAGS) {
             Number::Refused(refusal) => Updated::Refused(refusal),
             Number::Value(flags, at) => parse_levels(payload, limit, at, flags, row, previous),
         },
@@ -58,7 +58,7 @@ fn parse_levels(
     ensures { λ r. ⌜ saidRow r ≡ pass.levelsPass (previous .0) flags (rowSaid row) (now (payload .entry)) (limit .0) (at .0) ⌝ }
 {
     let levelled = parse_gain(payload, limit, at, flags, row, previous);
-    let Updated::Row(row, at) = levelled else {
+    let Updated::Row(at, row) = levelled else {
         return levelled;
     };
     parse_priority(payload, limit, at, flags, row)
@@ -75,18 +75,18 @@ fn parse_gain(
     ensures { λ r. ⌜ saidRow r ≡ pass.gainPass (previous .0) flags (rowSaid row) (now (payload .entry)) (limit .0) (at .0) ⌝ }
 {
     if !is_set(flags, 1) {
-        return Updated::Row(row, at);
+        return Updated::Row(at, row);
     }
     match bits::read(payload, limit, at, 2, OBJECT_GAIN_INDEX) {
         Number::Refused(refusal) => Updated::Refused(refusal),
         Number::Value(index, at) => match index {
-            0 => Updated::Row(with_gain(row, 0), at),
-            1 => Updated::Row(with_gain(row, SILENCE), at),
+            0 => Updated::Row(at, with_gain(row, 0)),
+            1 => Updated::Row(at, with_gain(row, SILENCE)),
             2 => match bits::read(payload, limit, at, 6, OBJECT_GAIN) {
                 Number::Refused(refusal) => Updated::Refused(refusal),
-                Number::Value(word, at) => Updated::Row(with_gain(row, gain_db(word)), at),
+                Number::Value(word, at) => Updated::Row(at, with_gain(row, gain_db(word))),
             },
-            _ => Updated::Row(with_gain(row, copied_gain(previous)), at),
+            _ => Updated::Row(at, with_gain(row, copied_gain(previous))),
         },
     }
 }
@@ -111,17 +111,17 @@ fn parse_priority(payload: &[u8], limit: BitPlace, at: BitPlace, flags: u32, row
     ensures { λ r. ⌜ saidRow r ≡ pass.priorityPass flags (rowSaid row) (now (payload .entry)) (limit .0) (at .0) ⌝ }
 {
     if !is_set(flags, 0) {
-        return Updated::Row(row, at);
+        return Updated::Row(at, row);
     }
     match bits::read_flag(payload, limit, at, DEFAULT_OBJECT_PRIORITY_FLAG) {
         Flag::Refused(refusal) => Updated::Refused(refusal),
         Flag::Is(default, at) => {
             if default {
-                return Updated::Row(with_priority(row, 32), at);
+                return Updated::Row(at, with_priority(row, 32));
             }
             match bits::read(payload, limit, at, 5, OBJECT_PRIORITY) {
                 Number::Refused(refusal) => Updated::Refused(refusal),
-                Number::Value(priority, at) => Updated::Row(with_priority(row, priority), at),
+                Number::Value(priority, at) => Updated::Row(at, with_priority(row, priority)),
             }
         }
     }

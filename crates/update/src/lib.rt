@@ -1,5 +1,6 @@
 // One object in one block: what is read of it, applied at once to the row before.
 ghost use mathlib.Core.Path.{_≡_};
+ghost use Prim.Native.Nat.{_≤_};
 ghost use Rattle.bits.specs.Parsed.{mapParsed};
 ghost use Rattle.bits.specs.Say.{said, saidPassed};
 ghost use Rattle.standard.specs.Updates as standard;
@@ -39,7 +40,7 @@ use state::silenced;
 
 // The row that follows and the place after what was read, or the refusal.
 pub enum Updated {
-    Row(Row, BitPlace),
+    Row(BitPlace, Row),
     Refused(Refusal),
 }
 
@@ -61,12 +62,12 @@ pub fn parse_update(
             let row = begun(row, kind, inactive);
             let previous = PreviousGain(previous_gain);
             let state = parse_state(payload, limit, at, kind, first, inactive, row, previous);
-            let Updated::Row(row, at) = state else {
+            let Updated::Row(at, row) = state else {
                 return state;
             };
             match skip_table_data(payload, limit, at) {
                 Passed::Refused(refusal) => Updated::Refused(refusal),
-                Passed::To(at) => Updated::Row(row, at),
+                Passed::To(at) => Updated::Row(at, row),
             }
         }
     }
@@ -86,17 +87,17 @@ fn parse_state(
     ensures { λ r. ⌜ saidRow r ≡ pass.statePass (kindOf kind) first inactive (previous .0) (rowSaid row) (now (payload .entry)) (limit .0) (at .0) ⌝ }
 {
     if inactive {
-        return Updated::Row(silenced(row), at);
+        return Updated::Row(at, silenced(row));
     }
     match read_status(payload, limit, at, first, BASIC_INFO_STATUS) {
         Number::Refused(refusal) => Updated::Refused(refusal),
         Number::Value(status, at) => {
             let levelled = parse_basic_info(payload, limit, at, status, row, previous);
-            let Updated::Row(row, at) = levelled else {
+            let Updated::Row(at, row) = levelled else {
                 return levelled;
             };
             if kind < DYNAMIC {
-                return Updated::Row(row, at);
+                return Updated::Row(at, row);
             }
             match read_status(payload, limit, at, first, RENDER_INFO_STATUS) {
                 Number::Refused(refusal) => Updated::Refused(refusal),
@@ -116,6 +117,25 @@ fn read_status(payload: &[u8], limit: BitPlace, at: BitPlace, first: bool, conte
         return Number::Value(1, at);
     }
     bits::read(payload, limit, at, 2, context)
+}
+
+// Status 1 brings all parts; other statuses say by flags which.
+fn read_parts(
+    payload: &[u8],
+    limit: BitPlace,
+    at: BitPlace,
+    status: u32,
+    all: u32,
+    width: usize,
+    context: u8,
+) -> Number
+    requires { ⌜ width ≤ 17 ⌝ }
+    ensures { λ r. ⌜ said r ≡ pass.partsRead status all width context (now (payload .entry)) (limit .0) (at .0) ⌝ }
+{
+    if status == 1 {
+        return Number::Value(all, at);
+    }
+    bits::read(payload, limit, at, width, context)
 }
 
 fn skip_table_data(payload: &[u8], limit: BitPlace, at: BitPlace) -> Passed

@@ -3,7 +3,7 @@ ghost use mathlib.Core.Path.{_≡_};
 ghost use mathlib.Core.Bool.{cond};
 ghost use Prim.Native.Nat.{ℕ, _<_, min};
 ghost use lib.IntN.{pos, negℤ, _+ℤ_};
-ghost use Rattle.bits.specs.Say.{saidPassed};
+ghost use Rattle.bits.specs.Say.{saidFlag, saidPassed};
 ghost use Rattle.standard.specs.Updates as standard;
 ghost use Rattle.standard.specs.Meaning as meaning;
 ghost use Rattle.rows.specs.Say.{positionSaid, rowSaid};
@@ -42,12 +42,9 @@ pub fn parse_position(
     ensures { λ r. ⌜ saidRow r ≡ pass.positionPass first flags (rowSaid row) (now (payload .entry)) (limit .0) (at .0) ⌝ }
 {
     if !is_set(flags, 3) {
-        return Updated::Row(row, at);
+        return Updated::Row(at, row);
     }
-    if first {
-        return parse_absolute(payload, limit, at, flags, row);
-    }
-    match bits::read_flag(payload, limit, at, DIFFERENTIAL_POSITION_FLAG) {
+    match read_differential(payload, limit, at, first) {
         Flag::Refused(refusal) => Updated::Refused(refusal),
         Flag::Is(differential, at) => {
             if differential {
@@ -57,6 +54,16 @@ pub fn parse_position(
             }
         }
     }
+}
+
+// In block 0 no position is differential, and no flag says so.
+fn read_differential(payload: &[u8], limit: BitPlace, at: BitPlace, first: bool) -> Flag
+    ensures { λ r. ⌜ saidFlag r ≡ pass.stepsRead first (now (payload .entry)) (limit .0) (at .0) ⌝ }
+{
+    if first {
+        return Flag::Is(false, at);
+    }
+    bits::read_flag(payload, limit, at, DIFFERENTIAL_POSITION_FLAG)
 }
 
 // Steps settle nothing, whatever the flags.
@@ -156,7 +163,7 @@ fn place(
 {
     match skip_distance(payload, limit, at) {
         Passed::Refused(refusal) => Updated::Refused(refusal),
-        Passed::To(at) => Updated::Row(with_position(row, position, settles), at),
+        Passed::To(at) => Updated::Row(at, with_position(row, position, settles)),
     }
 }
 

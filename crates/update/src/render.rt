@@ -17,6 +17,7 @@ use crate::contexts::SCREEN_FACTOR;
 use crate::contexts::SCREEN_REFERENCE_FLAG;
 use crate::contexts::ZONE_CONSTRAINTS_INDEX;
 use crate::position::parse_position;
+use crate::read_parts;
 use crate::state::SETTLED;
 use crate::state::default_picture;
 use crate::state::is_set;
@@ -41,10 +42,9 @@ pub fn parse_render_info(
     ensures { λ r. ⌜ saidRow r ≡ pass.renderPass first status (rowSaid row) (now (payload .entry)) (limit .0) (at .0) ⌝ }
 {
     match status {
-        0 => Updated::Row(reset_render_info(row), at),
-        1 => parse_groups(payload, limit, at, 0b1111, first, row),
-        2 => Updated::Row(row, at),
-        _ => match bits::read(payload, limit, at, 4, MIXED_RENDER_INFO_FLAGS) {
+        0 => Updated::Row(at, reset_render_info(row)),
+        2 => Updated::Row(at, row),
+        _ => match read_parts(payload, limit, at, status, 0b1111, 4, MIXED_RENDER_INFO_FLAGS) {
             Number::Refused(refusal) => Updated::Refused(refusal),
             Number::Value(flags, at) => parse_groups(payload, limit, at, flags, first, row),
         },
@@ -71,19 +71,19 @@ fn parse_groups(
     ensures { λ r. ⌜ saidRow r ≡ pass.groupsPass first flags (rowSaid row) (now (payload .entry)) (limit .0) (at .0) ⌝ }
 {
     let placed = parse_position(payload, limit, at, flags, first, row);
-    let Updated::Row(row, at) = placed else {
+    let Updated::Row(at, row) = placed else {
         return placed;
     };
     let zoned = parse_zone(payload, limit, at, flags, row);
-    let Updated::Row(row, at) = zoned else {
+    let Updated::Row(at, row) = zoned else {
         return zoned;
     };
     let sized = parse_size(payload, limit, at, flags, row);
-    let Updated::Row(row, at) = sized else {
+    let Updated::Row(at, row) = sized else {
         return sized;
     };
     let screened = parse_screen(payload, limit, at, flags, row);
-    let Updated::Row(row, at) = screened else {
+    let Updated::Row(at, row) = screened else {
         return screened;
     };
     parse_lock(payload, limit, at, row)
@@ -93,7 +93,7 @@ fn parse_zone(payload: &[u8], limit: BitPlace, at: BitPlace, flags: u32, row: Ro
     ensures { λ r. ⌜ saidRow r ≡ pass.zonePass flags (rowSaid row) (now (payload .entry)) (limit .0) (at .0) ⌝ }
 {
     if !is_set(flags, 2) {
-        return Updated::Row(row, at);
+        return Updated::Row(at, row);
     }
     match bits::read(payload, limit, at, 3, ZONE_CONSTRAINTS_INDEX) {
         Number::Refused(refusal) => Updated::Refused(refusal),
@@ -103,7 +103,7 @@ fn parse_zone(payload: &[u8], limit: BitPlace, at: BitPlace, flags: u32, row: Ro
             }
             match bits::read_flag(payload, limit, next, ELEVATION_ENABLED_FLAG) {
                 Flag::Refused(refusal) => Updated::Refused(refusal),
-                Flag::Is(elevated, next) => Updated::Row(with_zone(row, zone, elevated), next),
+                Flag::Is(elevated, next) => Updated::Row(next, with_zone(row, zone, elevated)),
             }
         }
     }
@@ -113,15 +113,15 @@ fn parse_size(payload: &[u8], limit: BitPlace, at: BitPlace, flags: u32, row: Ro
     ensures { λ r. ⌜ saidRow r ≡ pass.sizePass flags (rowSaid row) (now (payload .entry)) (limit .0) (at .0) ⌝ }
 {
     if !is_set(flags, 1) {
-        return Updated::Row(row, at);
+        return Updated::Row(at, row);
     }
     match bits::read(payload, limit, at, 2, OBJECT_SIZE_INDEX) {
         Number::Refused(refusal) => Updated::Refused(refusal),
         Number::Value(index, next) => match index {
-            0 => Updated::Row(with_size(row, 0, 0, 0), next),
+            0 => Updated::Row(next, with_size(row, 0, 0, 0)),
             1 => match bits::read(payload, limit, next, 5, OBJECT_SIZE) {
                 Number::Refused(refusal) => Updated::Refused(refusal),
-                Number::Value(size, next) => Updated::Row(with_size(row, size, size, size), next),
+                Number::Value(size, next) => Updated::Row(next, with_size(row, size, size, size)),
             },
             2 => parse_sizes(payload, limit, next, row),
             _ => Updated::Refused(Refusal::invalid(OBJECT_SIZE_INDEX, at)),
@@ -139,7 +139,7 @@ fn parse_sizes(payload: &[u8], limit: BitPlace, at: BitPlace, row: Row) -> Updat
             Number::Value(depth, at) => match bits::read(payload, limit, at, 5, OBJECT_HEIGHT) {
                 Number::Refused(refusal) => Updated::Refused(refusal),
                 Number::Value(height, at) => {
-                    Updated::Row(with_size(row, width, depth, height), at)
+                    Updated::Row(at, with_size(row, width, depth, height))
                 }
             },
         },
@@ -150,14 +150,14 @@ fn parse_screen(payload: &[u8], limit: BitPlace, at: BitPlace, flags: u32, row: 
     ensures { λ r. ⌜ saidRow r ≡ pass.screenPass flags (rowSaid row) (now (payload .entry)) (limit .0) (at .0) ⌝ }
 {
     if !is_set(flags, 0) {
-        return Updated::Row(row, at);
+        return Updated::Row(at, row);
     }
     match bits::read_flag(payload, limit, at, SCREEN_REFERENCE_FLAG) {
         Flag::Refused(refusal) => Updated::Refused(refusal),
         Flag::Is(on, at) => {
             let row = with_screen(row, on);
             if !on {
-                return Updated::Row(row, at);
+                return Updated::Row(at, row);
             }
             match bits::read(payload, limit, at, 3, SCREEN_FACTOR) {
                 Number::Refused(refusal) => Updated::Refused(refusal),
@@ -169,7 +169,7 @@ fn parse_screen(payload: &[u8], limit: BitPlace, at: BitPlace, flags: u32, row: 
                     DEPTH_FACTOR_INDEX,
                 ) {
                     Number::Refused(refusal) => Updated::Refused(refusal),
-                    Number::Value(_, at) => Updated::Row(row, at),
+                    Number::Value(_, at) => Updated::Row(at, row),
                 },
             }
         }
@@ -181,6 +181,6 @@ fn parse_lock(payload: &[u8], limit: BitPlace, at: BitPlace, row: Row) -> Update
 {
     match bits::read_flag(payload, limit, at, OBJECT_SNAP_FLAG) {
         Flag::Refused(refusal) => Updated::Refused(refusal),
-        Flag::Is(on, at) => Updated::Row(with_lock(row, on), at),
+        Flag::Is(on, at) => Updated::Row(at, with_lock(row, on)),
     }
 }

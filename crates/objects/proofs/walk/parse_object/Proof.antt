@@ -69,7 +69,7 @@ loop-again c =
     let s = c .before .before .before .before .before in
     let r = s .before .before in
     let l = r .before .before .before in
-    (omega arith, rw (c .before .put-row .ensures, c .before .before .row-place .ensures) (put-within _ _ (block-read _ _ _ _ _ _ _ _ _ (l .before .loop .inv .1) (l .loop-test .taken) (row-said r) (s .state .given .1)) (room l)))
+    (omega arith, rw (c .before .put-row .ensures, c .before .before .row-place .ensures) (put-within _ _ (block-read _ _ _ _ _ _ _ _ _ (l .before .loop .inv .1) (l .loop-test .taken) (row-said r) (s .next .given .1)) (room l)))
 
 returns-2 : tie.Need-returns-2 Inv-loop μ-loop
 returns-2 c = to (c .before .loop .inv .1) (blocks-done _ _ _ _ _ _ _ _ _ _ (c .loop-test .left))

@@ -12,31 +12,19 @@ use Rattle.update.proofs.position.parse_position.Tie as tie
 asked : (c : tie.Else1) → isSet 3 (c .before .before .before .args .flags) ≡ true
 asked c = set (c .before .is-set .ensures) (c .if1 .left)
 
+returns-3 : tie.Need-returns-3
+unfolding positionPass _>>=_ pure
+returns-3 c =
+    let differential = c .before .before .before in
+    rw (asked (differential .before .before .before), ← (differential .before .before .read-differential .ensures), differential .differential .given .1, c .before .if2 .taken)
+    (c .parse-differential .ensures _)
+
 returns-4 : tie.Need-returns-4
 unfolding positionPass _>>=_ pure
 returns-4 c =
     let differential = c .before .before .before in
-    rw (
-      asked (differential .before .before .before .before),
-      differential .before .before .before .if2 .left,
-      ← (differential .before .before .read-flag .ensures),
-      differential .differential .given .1,
-      c .before .if3 .taken,
-    )
-    (c .parse-differential .ensures _)
-
-returns-5 : tie.Need-returns-5
-unfolding positionPass _>>=_ pure
-returns-5 c =
-    let differential = c .before .before .before in
-    rw (
-      asked (differential .before .before .before .before),
-      differential .before .before .before .if2 .left,
-      ← (differential .before .before .read-flag .ensures),
-      differential .differential .given .1,
-      c .before .if3 .left,
-    )
-    (c .parse-absolute2 .ensures)
+    rw (asked (differential .before .before .before), ← (differential .before .before .read-differential .ensures), differential .differential .given .1, c .before .if2 .left)
+    (c .parse-absolute .ensures)
 
 pub parse-position-spec : {M : Type 1} → statement M
 unfolding positionPass _>>=_ pure
@@ -44,7 +32,6 @@ parse-position-spec =
     tie.close
     (tie.spec
     (λ c κs. search needs) (λ c. rw (unset (c .before .is-set .ensures) (c .if1 .taken))) (λ c κs. search needs)
-    (λ c. rw (asked (c .before .before), c .before .if2 .taken) (c .parse-absolute .ensures)) (λ c κs. search needs)
     (λ c. search needs) (λ c. search needs) (λ c κs. search needs) (λ c κs. search needs)
-    (λ c. rw (asked (c .before .before .before .before .before), c .before .before .before .before .if2 .left, ← (c .before .before .before .read-flag .ensures), c .before .refusal .given .1))
-    returns-4 returns-5)
+    (λ c. rw (asked (c .before .before .before .before), ← (c .before .before .before .read-differential .ensures), c .before .refusal .given .1))
+    returns-3 returns-4)

@@ -7,23 +7,23 @@ use Rattle.update.specs.Passes.{renderPass}
 use Rattle.update.proofs.render.parse_render_info.Statement.{statement}
 use Rattle.update.proofs.render.parse_render_info.Tie as tie
 
+returns-3 : tie.Need-returns-3
+unfolding renderPass _>>=_ pure
+returns-3 c =
+    let n = c .before .before .before .before .before .before .args .status in
+    rw (ne-eqb n 0 (omega arith), ne-eqb n 2 (omega arith), ← (c .before .before .before .read-parts .ensures), c .before .refusal .given .1)
+
 returns-4 : tie.Need-returns-4
 unfolding renderPass _>>=_ pure
 returns-4 c =
-    let n = c .before .before .before .before .before .before .args .status in
-    rw (ne-eqb n 0 (omega arith), ne-eqb n 2 (omega arith), ne-eqb n 1 (omega arith), ← (c .before .before .before .read .ensures), c .before .refusal .given .1)
-
-returns-5 : tie.Need-returns-5
-unfolding renderPass _>>=_ pure
-returns-5 c =
     let n = c .before .before .before .before .before .before .before .args .status in
-    rw (ne-eqb n 0 (omega arith), ne-eqb n 2 (omega arith), ne-eqb n 1 (omega arith), ← (c .before .before .before .before .read .ensures), c .before .before .flags .given .1) (c .parse-groups2 .ensures)
+    rw (ne-eqb n 0 (omega arith), ne-eqb n 2 (omega arith), ← (c .before .before .before .before .read-parts .ensures), c .before .before .flags .given .1) (c .parse-groups .ensures)
 
 pub parse-render-info-spec : {M : Type 1} → statement M
 unfolding renderPass _>>=_ pure
 parse-render-info-spec =
     tie.close
     (tie.spec
-    (λ c κs. search needs) (λ c κs. search needs) (λ c κs. search needs) (λ c. search needs) (λ c. search needs)
+    (λ c κs. search needs) (λ c κs. search needs) (λ c. search needs) (λ c. search needs)
     (λ c κs. search needs) (λ c. rw (c .reset-render-info .ensures, c .before .match .keys1))
-    (λ c. rw (c .before .match .keys2) (c .parse-groups .ensures)) (λ c. rw (c .match .keys3)) returns-4 returns-5)
+    (λ c. rw (c .match .keys2)) returns-3 returns-4)

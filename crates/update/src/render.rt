@@ -44,7 +44,15 @@ pub fn parse_render_info(
     match status {
         0 => Updated::Row(at, reset_render_info(row)),
         2 => Updated::Row(at, row),
-        _ => match read_parts(payload, limit, at, status, 0b1111, 4, MIXED_RENDER_INFO_FLAGS) {
+        _ => match read_parts(
+            payload,
+            limit,
+            at,
+            status,
+            0b1111,
+            4,
+            MIXED_RENDER_INFO_FLAGS,
+        ) {
             Number::Refused(refusal) => Updated::Refused(refusal),
             Number::Value(flags, at) => parse_groups(payload, limit, at, flags, first, row),
         },

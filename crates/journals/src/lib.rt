@@ -1,0 +1,2 @@
+// The journal as a library: bytes to records, records to replies.
+pub mod records;

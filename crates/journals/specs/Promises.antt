@@ -2,13 +2,19 @@
 use Prim.Native.Nat.{ℕ, _≤_, _<_}
 use mathlib.Core.Path.{_≡_}
 use mathlib.Core.List.{List}
+use lib.IntN.{ℤ}
 use lib.ListN.{length}
-use Rattle.standard.specs.Journal.{Step}
-use Rattle.journals.specs.Say.{saidFound}
+use Rattle.standard.specs.Calls.{Done}
+use Rattle.standard.specs.Journal.{Step, Replied}
+use Rattle.journals.specs.Say.{saidFound, saidAnswer, saidReply}
 use Rattle.journals.specs.declared.records.Kind.{Kind}
 use Rattle.journals.specs.declared.records.Kind.the-variants as kind
 use Rattle.journals.specs.declared.records.Found.{Found}
 use Rattle.journals.specs.declared.records.Found.the-variants as found
+use Rattle.journals.specs.declared.replies.Answer.{Answer}
+use Rattle.journals.specs.declared.replies.Reply.{Reply}
+
+-- Bytes to records
 
 -- where the body of a record begins
 abbrev pub bodyAt : Kind → ℕ
@@ -35,3 +41,19 @@ Placed n found.Unknown = Unit {0}
 pub record Stepped (x : Step) (s : List ℕ) (f : Found) : Type 0 where
   pub said : saidFound s f ≡ x
   pub placed : Placed (length s) f
+
+-- Records to replies: the answer, and each lent list that is left
+
+pub record Answers (d : Done) (a : Answer) (r s b : List ℤ) (t : List ℕ) : Type 0 where
+  pub answer : saidAnswer a ≡ d .answer
+  pub retained : r ≡ d .lent .retained
+  pub start : s ≡ d .lent .start
+  pub blocks : b ≡ d .lent .blocks
+  pub timings : t ≡ d .lent .timings
+
+pub record Left (d : Replied) (a : Reply) (r s b : List ℤ) (t : List ℕ) : Type 0 where
+  pub reply : saidReply a ≡ d .reply
+  pub retained : r ≡ d .lent .retained
+  pub start : s ≡ d .lent .start
+  pub blocks : b ≡ d .lent .blocks
+  pub timings : t ≡ d .lent .timings

@@ -1,2 +1,3 @@
 // The journal as a library: bytes to records, records to replies.
 pub mod records;
+pub mod replies;

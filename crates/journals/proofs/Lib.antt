@@ -1,0 +1,4 @@
+pub mod Stepping
+pub mod Replying
+pub mod Turning
+pub mod Determined

@@ -2,5 +2,6 @@ pub mod Laws
 pub mod Filling
 pub mod Stages
 pub mod Chosen
+pub mod Extended
 pub mod Assigning
 pub mod Growth

@@ -31,7 +31,7 @@ use Rattle.bits.proofs.BitPlace as P
 use Rattle.bits.proofs.BitPlace.Laws as P′
 use Rattle.cursor.specs.declared.BitCursor.{BitCursor}
 use Rattle.cursor.proofs.BitCursor.Laws as T′
-use Rattle.cursor.proofs.Held.{B, D, L, IsPlace, IsCursor, Own, place-makes, twice}
+use Rattle.cursor.proofs.Held.{B, D, L, IsPlace, IsCursor, Own, place-makes, typed-place, typed, twice}
 use Rattle.cursor.proofs.BitCursor.moved.Key.{name as #cursor·moved}
 use Rattle.cursor.proofs.BitCursor.moved as moved
 use Rattle.cursor.proofs.BitCursor.moved.Statement as stated
@@ -65,13 +65,11 @@ module _ {M : Type 1} (𝓤 : URA M) (H : Heap 𝓤) (A : Atoms 𝓤) (W : Given
   module _ (C : Calls 𝓤 H) (Λ : Loops 𝓤 H) where
     walk : ent 𝓤 (onEntry 𝓤 H A moved.signature (κ, tt) (q, tt) (d, (to, tt)) at) (WpFn 𝓤 H C Λ code.function (mach ∷ P′.lowered to ∷ []) Post)
     walk =
-        let wt = LL.lawful (D (κ, tt)) (L (κ, tt)) 𝓤 H A W .typed d _ is .0 in
-        let wp = LL.lawful P.the-type P′.the-laws 𝓤 H A W .typed to _ placed .0 in
         qed W ((‵ (flft κ q) ⊛ ‵ ftrue) ∷ ‵ (owns (B (κ, tt) ∷ P.the-row ∷ []) (d, (to, tt)) at) ∷ []) ∵ enter ! C Λ code.function (mach ∷ P′.lowered to ∷ []) _ $
-        alloc1 ! (λ l₀. alloc1 ! (λ l₁. alloc1 ! (λ l₂. alloc1 ! (λ l₃. alloc1 ! (λ l₄. alloc0 ! $ params1 ! $ pass1 ! (init ! 6 refl wt) $ pass1 ! (init ! 4 refl wp) $ pass0 ! $
-        assigns ! (of-opd ! (load ! (from ! (fld ! refl (stop !))) (look-in ! 6 (sub ! 0 refl (whole !))))) (from ! (stop !)) (init ! 2 refl (tt, wt .1 .0)) $
-        assigns ! (of-opd ! (load ! (from ! (fld ! refl (stop !))) (look-in ! 6 (sub ! 1 refl (whole !))))) (from ! (stop !)) (init ! 0 refl (tt, wt .1 .1 .0)) $
-        assigns ! (agg ! (and-then ! (load ! (from ! (stop !)) (look ! 2 refl)) (and-then ! (load ! (from ! (stop !)) (look ! 0 refl)) (and-then ! (load ! (from ! (stop !)) (look ! 4 refl)) (no-more !))))) (from ! (stop !)) (init ! 8 refl (tt, (wt .1 .0, (wt .1 .1 .0, (wp .1, tt))))) $
+        alloc1 ! (λ l₀. alloc1 ! (λ l₁. alloc1 ! (λ l₂. alloc1 ! (λ l₃. alloc1 ! (λ l₄. alloc0 ! $ params1 ! $ pass1 ! (init ! 6 refl (typed 𝓤 H A W κ d is)) $ pass1 ! (init ! 4 refl (typed-place 𝓤 H A W to _ placed)) $ pass0 ! $
+        assigns ! (of-opd ! (load ! (from ! (fld ! refl (stop !))) (look-in ! 6 (sub ! 0 refl (whole !))))) (from ! (stop !)) (init ! 2 refl (tt, typed 𝓤 H A W κ d is .1 .0)) $
+        assigns ! (of-opd ! (load ! (from ! (fld ! refl (stop !))) (look-in ! 6 (sub ! 1 refl (whole !))))) (from ! (stop !)) (init ! 0 refl (tt, typed 𝓤 H A W κ d is .1 .1 .0)) $
+        assigns ! (agg ! (and-then ! (load ! (from ! (stop !)) (look ! 2 refl)) (and-then ! (load ! (from ! (stop !)) (look ! 0 refl)) (and-then ! (load ! (from ! (stop !)) (look ! 4 refl)) (no-more !))))) (from ! (stop !)) (init ! 8 refl (tt, (typed 𝓤 H A W κ d is .1 .0, (typed 𝓤 H A W κ d is .1 .1 .0, (typed-place 𝓤 H A W to _ placed .1, tt))))) $
         returns ! (look ! 8 refl) $ forget ! 0 refl $ forget ! 2 refl $ forget ! 4 refl $ forget ! 6 refl $ forget ! 8 refl $
         move ! (8 ∷ 9 ∷ []) $ free1 ! $ move ! (6 ∷ 7 ∷ []) $ free1 ! $ move ! (4 ∷ 5 ∷ []) $ free1 ! $ move ! (2 ∷ 3 ∷ []) $ free1 ! $ free1 ! $ free0 ! $ by ! exits)))))
 

@@ -38,7 +38,7 @@ use Rattle.bits.proofs.BitPlace as P
 use Rattle.bits.proofs.BitPlace.Laws as P′
 use Rattle.cursor.specs.declared.BitCursor.{BitCursor}
 use Rattle.cursor.proofs.BitCursor.Laws as T′
-use Rattle.cursor.proofs.Held.{D, L, IsPlace, place-makes}
+use Rattle.cursor.proofs.Held.{D, L, IsPlace, place-makes, typed-place}
 use Rattle.cursor.proofs.BitCursor.new.Key.{name as #cursor·new}
 use Rattle.cursor.proofs.BitCursor.new as new
 use Rattle.cursor.proofs.BitCursor.new.Statement as stated
@@ -83,8 +83,8 @@ module _ {M : Type 1} (𝓤 : URA M) (H : Heap 𝓤) (A : Atoms 𝓤) (W : Given
     walk : Is (ShrSlice (named 0) κ u8) s (v ∷ []) → ent 𝓤 (onEntry 𝓤 H A new.signature (κ, tt) (q, tt) a at) (WpFn 𝓤 H C Λ code.function (v ∷ P′.lowered limit ∷ P′.lowered position ∷ []) Post)
     walk is =
         let ws = shr-slice-lawful 𝓤 H A W (named 0) κ u8 .typed s (v ∷ []) is .0 in
-        let wl = LL.lawful P.the-type P′.the-laws 𝓤 H A W .typed limit _ il .0 in
-        let wp = LL.lawful P.the-type P′.the-laws 𝓤 H A W .typed position _ ip .0 in
+        let wl = typed-place 𝓤 H A W limit _ il in
+        let wp = typed-place 𝓤 H A W position _ ip in
         qed W (raw (onEntry 𝓤 H A new.signature (κ, tt) (q, tt) a at) ∷ []) ∵ enter ! C Λ code.function (v ∷ P′.lowered limit ∷ P′.lowered position ∷ []) _ $
         alloc1 ! (λ l₀. alloc1 ! (λ l₁. alloc1 ! (λ l₂. alloc1 ! (λ l₃. alloc0 ! $ params1 ! $ pass1 ! (init ! 4 refl ws) $ pass1 ! (init ! 2 refl wl) $ pass1 ! (init ! 0 refl wp) $ pass0 ! $
         assigns ! (agg ! (and-then ! (load ! (from ! (stop !)) (look ! 4 refl)) (and-then ! (load ! (from ! (stop !)) (look ! 2 refl)) (and-then ! (load ! (from ! (stop !)) (look ! 0 refl)) (no-more !))))) (from ! (stop !)) (init ! 6 refl (tt, (ws .1, (wl .1, (wp .1, tt))))) $

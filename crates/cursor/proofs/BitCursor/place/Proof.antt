@@ -28,7 +28,7 @@ use Rattle.bits.proofs.BitPlace as P
 use Rattle.bits.proofs.BitPlace.Laws as P′
 use Rattle.cursor.specs.declared.BitCursor.{BitCursor}
 use Rattle.cursor.proofs.BitCursor.Laws as T′
-use Rattle.cursor.proofs.Held.{B, D, L, IsCursor, position-is, place-makes}
+use Rattle.cursor.proofs.Held.{B, D, L, IsCursor, position-is, place-makes, typed-place, typed}
 use Rattle.cursor.proofs.BitCursor.place.Key.{name as #cursor·place}
 use Rattle.cursor.proofs.BitCursor.place as place
 use Rattle.cursor.proofs.BitCursor.place.Statement as stated
@@ -55,8 +55,8 @@ module _ {M : Type 1} (𝓤 : URA M) (H : Heap 𝓤) (A : Atoms 𝓤) (W : Given
     walk =
         qed W ((‵ (flft κ q) ⊛ ‵ ftrue) ∷ ‵ (owns (B (κ, tt) ∷ []) (d, tt) (mach ∷ [], tt)) ∷ []) ∵ enter ! C Λ code.function (mach ∷ []) _ $
         alloc1 ! (λ l₀. alloc1 ! (λ l₁. alloc0 ! $ params1 ! $
-        pass1 ! (init ! 0 refl (LL.lawful (D (κ, tt)) (L (κ, tt)) 𝓤 H A W .typed d (mach ∷ []) is .0)) $ pass0 ! $
-        assigns ! (of-opd ! (load ! (from ! (fld ! refl (stop !))) (look-in ! 0 (sub ! 2 refl (whole !))))) (from ! (stop !)) (init ! 2 refl (LL.lawful P.the-type P′.the-laws 𝓤 H A W .typed (d .position) _ (position-is κ d is) .0)) $
+        pass1 ! (init ! 0 refl (typed 𝓤 H A W κ d is)) $ pass0 ! $
+        assigns ! (of-opd ! (load ! (from ! (fld ! refl (stop !))) (look-in ! 0 (sub ! 2 refl (whole !))))) (from ! (stop !)) (init ! 2 refl (typed-place 𝓤 H A W (d .position) _ (position-is κ d is))) $
         returns ! (look ! 2 refl) $ forget ! 0 refl $ forget ! 2 refl $ move ! (2 ∷ 3 ∷ []) $ free1 ! $ free1 ! $ free0 ! $ by ! exits))
 
 module _ {M : Type 1} (𝓤 : URA M) (H : Heap 𝓤) (A : Atoms 𝓤) (W : Given 𝓤 H A) (mem : Memory → SProp 𝓤) (run : Routine → Fun 𝓤) where

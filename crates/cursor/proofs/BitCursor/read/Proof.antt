@@ -48,7 +48,7 @@ use Rattle.bits.proofs.read.Symbol.{name as #bits·read}
 use Rattle.bits.proofs.read.Met as below-thm
 use Rattle.cursor.specs.declared.BitCursor.{BitCursor}
 use Rattle.cursor.proofs.BitCursor.Laws as T′
-use Rattle.cursor.proofs.Held.{B, D, L, IsCursor, limit-is, position-is, Own, payloadVal, OwnPayload, place-makes, payload-out}
+use Rattle.cursor.proofs.Held.{B, D, L, IsCursor, limit-is, position-is, Own, payloadVal, OwnPayload, place-makes, typed, payload-out}
 use Rattle.cursor.proofs.BitCursor.read.Key.{name as #cursor·read}
 use Rattle.cursor.proofs.BitCursor.read as read
 use Rattle.cursor.proofs.BitCursor.read.Statement as stated
@@ -120,12 +120,11 @@ module _ {M : Type 1} (𝓤 : URA M) (H : Heap 𝓤) (A : Atoms 𝓤) (W : Given
   module _ (C : Calls 𝓤 H) (Λ : Loops 𝓤 H) (fm : FmC 𝓤 H (W .laws) C) (known : Triple 𝓤 (C #bits·read) (Below 𝓤 H A mem run)) where
     walk : ent 𝓤 (onEntry 𝓤 H A read.signature (κ, tt) (q, tt) a at) (WpFn 𝓤 H C Λ code.function (mach ∷ vint w64 width ∷ vint w8 context ∷ []) Post)
     walk =
-        let wt = LL.lawful (D (κ, tt)) (L (κ, tt)) 𝓤 H A W .typed d _ is .0 in
         qed W (raw (onEntry 𝓤 H A read.signature (κ, tt) (q, tt) a at) ∷ []) ∵ enter ! C Λ code.function (mach ∷ vint w64 width ∷ vint w8 context ∷ []) _ $
-        alloc1 ! (λ l₀. alloc1 ! (λ l₁. alloc1 ! (λ l₂. alloc1 ! (λ l₃. alloc1 ! (λ l₄. alloc1 ! (λ l₅. alloc1 ! (λ l₆. alloc0 ! $ params1 ! $ pass1 ! (init ! 10 refl wt) $ pass1 ! (init ! 8 refl (tt, record { fits = w-fits })) $ pass1 ! (init ! 6 refl (tt, record { fits = c-fits })) $ pass0 ! $
-        assigns ! (of-opd ! (load ! (from ! (fld ! refl (stop !))) (look-in ! 10 (sub ! 0 refl (whole !))))) (from ! (stop !)) (init ! 4 refl (tt, wt .1 .0)) $
-        assigns ! (of-opd ! (load ! (from ! (fld ! refl (stop !))) (look-in ! 10 (sub ! 1 refl (whole !))))) (from ! (stop !)) (init ! 2 refl (tt, wt .1 .1 .0)) $
-        assigns ! (of-opd ! (load ! (from ! (fld ! refl (stop !))) (look-in ! 10 (sub ! 2 refl (whole !))))) (from ! (stop !)) (init ! 0 refl (tt, wt .1 .1 .1 .0)) $
+        alloc1 ! (λ l₀. alloc1 ! (λ l₁. alloc1 ! (λ l₂. alloc1 ! (λ l₃. alloc1 ! (λ l₄. alloc1 ! (λ l₅. alloc1 ! (λ l₆. alloc0 ! $ params1 ! $ pass1 ! (init ! 10 refl (typed 𝓤 H A W κ d is)) $ pass1 ! (init ! 8 refl (tt, record { fits = w-fits })) $ pass1 ! (init ! 6 refl (tt, record { fits = c-fits })) $ pass0 ! $
+        assigns ! (of-opd ! (load ! (from ! (fld ! refl (stop !))) (look-in ! 10 (sub ! 0 refl (whole !))))) (from ! (stop !)) (init ! 4 refl (tt, typed 𝓤 H A W κ d is .1 .0)) $
+        assigns ! (of-opd ! (load ! (from ! (fld ! refl (stop !))) (look-in ! 10 (sub ! 1 refl (whole !))))) (from ! (stop !)) (init ! 2 refl (tt, typed 𝓤 H A W κ d is .1 .1 .0)) $
+        assigns ! (of-opd ! (load ! (from ! (fld ! refl (stop !))) (look-in ! 10 (sub ! 2 refl (whole !))))) (from ! (stop !)) (init ! 0 refl (tt, typed 𝓤 H A W κ d is .1 .1 .1 .0)) $
         move ! (14 ∷ []) $ use1 W (raw (Below 𝓤 H A mem run .pre to) ⊛ ‵ All) apart $ split ! $
         -- [what the callee asks; what the parameters own; _6; …; _5; …; _4; …; _3; …; _2; …; _1; …; room for _0; …]
         calls-at ! fm (Below 𝓤 H A mem run) known to (and-then ! (load ! (from ! (stop !)) (look ! 6 refl)) (and-then ! (load ! (from ! (stop !)) (look ! 4 refl)) (and-then ! (load ! (from ! (stop !)) (look ! 2 refl)) (and-then ! (load ! (from ! (stop !)) (look ! 10 refl)) (and-then ! (load ! (from ! (stop !)) (look ! 8 refl)) (no-more !)))))) (λ u.

@@ -5,6 +5,9 @@ ghost use lib.ListN.{length};
 ghost use Rattle.bits.specs.Say.{said, saidPassed};
 ghost use Rattle.standard.specs.Assignment as paper;
 ghost use Rattle.assignment.specs.Kinds.{Assigned};
+use crate::answers::end_of;
+use crate::answers::is_value;
+use crate::answers::plus;
 use crate::contents::parse_contents;
 use crate::kinds::DYNAMIC;
 use crate::kinds::LFE;
@@ -15,7 +18,9 @@ use bits::Flag;
 use bits::Number;
 use bits::Passed;
 use bits::Refusal;
+use cursor::BitCursor;
 
+mod answers;
 mod beds;
 mod contents;
 mod contexts;
@@ -37,17 +42,13 @@ pub fn read_extended(
     requires { ⌜ (width ≤ 17) × ((extra ≤ 17) × (largest < 2 ^ 17)) ⌝ }
     ensures { λ r. ⌜ said r ≡ paper.extended width context largest extra «extra_context» (now (payload .entry)) (limit .0) (at .0) ⌝ }
 {
-    let head = bits::read(payload, limit, at, width, context);
-    let Number::Value(value, next) = head else {
-        return head;
-    };
-    if value != largest {
+    let bits = BitCursor::new(payload, limit, at);
+    let head = bits.read(width, context);
+    if !is_value(head, largest) {
         return head;
     }
-    match bits::read(payload, limit, next, extra, extra_context) {
-        Number::Value(more, end) => Number::Value(largest + more, end),
-        Number::Refused(refusal) => Number::Refused(refusal),
-    }
+    let rest = bits.moved(end_of(head, at));
+    plus(largest, rest.read(extra, extra_context))
 }
 
 pub fn read_version(payload: &[u8], limit: BitPlace, at: BitPlace) -> Passed

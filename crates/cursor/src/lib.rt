@@ -7,7 +7,7 @@ use bits::BitPlace;
 use bits::Flag;
 use bits::Number;
 
-// It holds the payload for 'a. A read answers with the place after it, and `moved` goes on from there.
+// Taken by value: a read answers with the place after it, and `moved` goes on from there.
 pub struct BitCursor<'a> {
     pub payload: &'a [u8],
     pub limit: BitPlace,

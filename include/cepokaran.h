@@ -88,7 +88,7 @@ enum cepokaran_number {
     CEPOKARAN_LIMIT = 3,       /* the payload passes a limit of the format */
     CEPOKARAN_UNSUPPORTED = 4, /* the payload says what this decoder does not take */
     CEPOKARAN_ROOM = 5,        /* a table is shorter than needed */
-    CEPOKARAN_FORM = 6,        /* the retained table, or the row to be shown, is not in form */
+    CEPOKARAN_FORM = 6,        /* out of form: the retained table, or the row that is asked for */
     CEPOKARAN_SIZE = 7,        /* the payload is longer than CEPOKARAN_PAYLOAD_LIMIT */
     CEPOKARAN_ORDERING = 8,    /* timings: a start falls below the one before it */
     CEPOKARAN_OVERLAP = 9,     /* timings: a block starts before the one before it has ended */
@@ -134,7 +134,7 @@ enum {
  *
  * Refused in this order, and no table changes: ROOM (any of the four tables), FORM (retained), SIZE.
  * Then the payload is read. Refused by TRUNCATED, INVALID, LIMIT or UNSUPPORTED: context and place
- * say where; retained is unchanged; the needed length of start, blocks and timings is set to 0.
+ * say where; retained stays; start, blocks and timings become 0 over their needed lengths.
  *
  * Accepted: the frame has objects and blocks. Written are `objects` rows of start (how each object
  * stands before the first block), blocks * objects rows of blocks, and 2 * blocks numbers of timings;
@@ -179,8 +179,8 @@ enum {
 /*
  * Between which two rows of each object a sample of the frame lies, and which part of the way is
  * gone: 0 is the row `from`, 1 the row `to`. The answer is given for any timings, also for those that
- * oamd_timing refuses. The fraction is elapsed / duration in one f32 division, and is below 1 exactly
- * when elapsed < duration. A row that stands still is from = to, 1 / 1.
+ * oamd_timing refuses. The fraction is elapsed / duration in one f32 division: below 1 if elapsed is
+ * below duration, and only then. A row that stands still is from = to, 1 / 1.
  * Refused in this order: QUERY (a sample over 1,535, or more than 8 blocks), ROOM (fewer than
  * 2 * blocks numbers). Then all four numbers and the fraction are 0.
  */

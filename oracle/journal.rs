@@ -1,4 +1,4 @@
-//! Journals: records headed by a two-byte mark, and what the oracle says to each.
+//! Journals: records, each behind its mark, and what the oracle says to each.
 
 use crate::answer::{Frame, Oracle, Row};
 use std::fmt::Display;

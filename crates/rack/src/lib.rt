@@ -1,4 +1,4 @@
-// The library that a rack's processor links: each public call under its C name, and nothing else.
+// What a rack links: the public calls under their C names, and nothing else.
 ghost use mathlib.Core.Path.{_≡_};
 ghost use Rattle.standard.specs.Calls as calls;
 ghost use Rattle.rows.specs.Promises as rows;

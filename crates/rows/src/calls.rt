@@ -51,7 +51,7 @@ pub fn row_number(table: &[i16], index: usize) -> u32
     FORM
 }
 
-// The row at an index as a part of the caller's table: empty where its number is not 0.
+// The row at an index, where it lies in the table: empty where its number is not 0.
 pub fn row_part<'a>(table: &'a [i16], index: usize, number: &mut u32) -> &'a [i16]
     ensures { λ r. ⌜ Handed (partCall (now (table .entry)) index) (now (number .exit)) (now r) ⌝ }
 {

@@ -1,4 +1,4 @@
--- Cases of the elements: their count, sizes and order, the trim element, and the three paddings.
+-- Cases of document 01, "Reading order", from the element count on: sizes, order, the trim element and the three paddings.
 use Prim.Native.Nat.{ℕ, _*_}
 use mathlib.Core.List.{List, [], _∷_, _++_, flatten}
 use lib.Dec.{T}
@@ -49,23 +49,23 @@ trim warp zeros mode b = element 2 (2 ⊳ warp ++ 2 ⊳ zeros ++ 2 ⊳ mode ++ b
 
 unfoldable pub sizeCases : List Case
 sizeCases =
-    -- "a cut first group or flag is Truncated": the group at bit 23,
+    -- Truncated, where the read that is cut begins: the first group, at bit 23,
     fails (fifteenAnd 0 (4 ⊳ 1)) 1 context.element-size 23
     -- the flag after the first group, at bit 56,
     ∷ fails (bytes (dynamicOnly 1 0 ++ 1 ⊳ 0 ++ 4 ⊳ 3 ++ unknown ++ unknown ++ 4 ⊳ 1 ++ 4 ⊳ 0)) 1 context.element-size 56
     -- and after a later one, at bit 32
     ∷ fails (bare (4 ⊳ 1 ++ more 0 ++ more 0 ++ 4 ⊳ 0)) 1 context.element-size 32
-    -- "A later group cut short is Limit too", at the size: the second group,
+    -- a group cut after the first is Limit, where the size begins: the second,
     ∷ fails (bare (4 ⊳ 1 ++ more 0)) 3 context.element-size 18
     -- and a third
     ∷ fails (bytes (dynamicOnly 1 0 ++ 1 ⊳ 0 ++ 4 ⊳ 2 ++ unknown ++ 4 ⊳ 1 ++ more 0 ++ more 0)) 3 context.element-size 35
-    -- "A fifth group is Limit"
+    -- so is a group past the fourth
     ∷ fails (bare (4 ⊳ 1 ++ more 0 ++ more 0 ++ more 0 ++ more 0 ++ last 0)) 3 context.element-size 18
-    -- "at most 4 groups, 69,904 bytes": "Element longer than the payload: the bit after its size", after one, two and four groups
+    -- an element that the payload does not hold, at the bit behind its size: of one, two and four groups, the last of 69,904 bytes, the most
     ∷ fails (bare (4 ⊳ 1 ++ last 1 ++ 8 ⊳ 0)) 1 context.element 23
     ∷ fails (bare (4 ⊳ 1 ++ sizeGroups 17)) 1 context.element 28
     ∷ fails (bare (4 ⊳ 1 ++ more 15 ++ more 15 ++ more 15 ++ last 15)) 1 context.element 38
-    -- "each later group v × 16 + 16 + next": 17 bytes in two groups, 274 in three; the object element behind is found
+    -- before a further group the value v becomes (v + 1) × 16: 17 bytes in two groups, 274 in three; the object element behind is found
     ∷ rests (ofElements (element 5 (replicate 135 1) ∷ rest ∷ []))
     ∷ rests (ofElements ((4 ⊳ 5 ++ more 0 ++ more 0 ++ last 1 ++ replicate (274 * 8) 1) ∷ rest ∷ []))
     ∷ []
@@ -74,24 +74,24 @@ sizeCases =
 
 unfoldable pub orderCases : List Case
 orderCases =
-    -- "element count 4 bits, 15 adds 5 more; over 31 is Limit"
+    -- 15 and 17 more are over 31: Limit, at the count. A cut id, and a cut second part of the count, stand at their own first bit
     fails (fifteenAnd 17 []) 3 context.element-count 10
     ∷ fails (bare []) 1 context.element-id 14
     ∷ fails (bytes (dynamicOnly 1 0 ++ 1 ⊳ 0 ++ 4 ⊳ 15)) 1 context.extended-element-count 14
-    -- 31 elements pass, "others skipped": one object element after 30 unknown ones; 31 zero elements, and "Missing: payload end"
+    -- 31 elements pass: an object element after 30 unknown ones; 31 of id 0, where the object element is missed at the payload's end
     ∷ rests (fifteenAnd 16 (flatten (replicate 30 unknown) ++ rest))
     ∷ fails (fifteenAnd 16 (replicate (31 * 17) 0)) 2 context.missing-object-element 552
-    -- "Id 1 objects, 2 trim, others skipped", whatever they hold, and whatever the discard flag
+    -- ids 0 and 15 are passed over, whatever they hold; a set discard flag says nothing
     ∷ rests (ofElements (element 0 (23 ⊳ 0x7fffff) ∷ rest ∷ element 15 (7 ⊳ 0x7f) ∷ []))
     ∷ rests (bare (4 ⊳ 1 ++ last 2 ++ filled (1 ⊳ 1 ++ blocks 1 ++ off)))
-    -- a second object element: "Duplicate: that element's id", at bit 47, whatever it holds
+    -- a second object element is refused at its own id, bit 47, whatever it holds
     ∷ fails (ofElements (rest ∷ rest ∷ [])) 2 context.duplicate-object-element 47
     ∷ fails (ofElements (rest ∷ element 1 (7 ⊳ 0x7f) ∷ [])) 2 context.duplicate-object-element 47
     -- but that it is longer than the payload comes before
     ∷ fails (bytes (dynamicOnly 1 0 ++ 1 ⊳ 0 ++ 4 ⊳ 2 ++ rest ++ 4 ⊳ 1 ++ last 15)) 1 context.element 56
     -- missing: only a trim and an unknown element
     ∷ fails (ofElements (trim 0 0 0 (1 ⊳ 0) ∷ unknown ∷ [])) 2 context.missing-object-element 48
-    -- "Alternate id (only 0 supported) .. inside the element", of unknown elements too
+    -- an alternate id comes first in an element and must be 0, in unknown elements too
     ∷ rests (bytes (dynamicOnly 1 0 ++ 1 ⊳ 1 ++ 4 ⊳ 1 ++ 4 ⊳ 1 ++ last 2 ++ filled (4 ⊳ 0 ++ 1 ⊳ 0 ++ blocks 1 ++ off)))
     ∷ fails (bytes (dynamicOnly 1 0 ++ 1 ⊳ 1 ++ 4 ⊳ 1 ++ 4 ⊳ 1 ++ last 2 ++ filled (4 ⊳ 1 ++ 1 ⊳ 0 ++ blocks 1 ++ off))) 4 context.alternate-object-data-type 23
     ∷ fails (bytes (dynamicOnly 1 0 ++ 1 ⊳ 1 ++ 4 ⊳ 1 ++ 4 ⊳ 5 ++ last 0 ++ filled (4 ⊳ 8))) 4 context.alternate-object-data-type 23
@@ -101,16 +101,16 @@ orderCases =
 
 unfoldable pub trimCases : List Case
 trimCases =
-    -- "warp 2 bits, over 1 Invalid"
+    -- there are no warps 2 and 3
     fails (ofElements (trim 2 0 0 (1 ⊳ 0) ∷ rest ∷ [])) 2 context.trim-warp-mode 24
     ∷ fails (ofElements (trim 3 0 0 (1 ⊳ 0) ∷ rest ∷ [])) 2 context.trim-warp-mode 24
-    -- "2 zero bits"
+    -- either reserved bit set
     ∷ fails (ofElements (trim 1 1 0 (1 ⊳ 0) ∷ rest ∷ [])) 2 context.trim-reserved-bits 26
     ∷ fails (ofElements (trim 1 2 0 (1 ⊳ 0) ∷ rest ∷ [])) 2 context.trim-reserved-bits 26
-    -- "mode 2 bits, 2 Unsupported, 3 Invalid"
+    -- mode 2 is not supported, and there is no mode 3
     ∷ fails (ofElements (trim 1 0 2 (1 ⊳ 0) ∷ rest ∷ [])) 4 context.custom-trim-configuration 28
     ∷ fails (ofElements (trim 1 0 3 (1 ⊳ 0) ∷ rest ∷ [])) 2 context.global-trim-mode 28
-    -- "flag, then one skipped bit per object": cut by the element's end, where the run begins
+    -- the objects' bits behind the flag, cut by the element's end: at the first of them
     ∷ fails (ofElements (trim 1 0 1 (1 ⊳ 1) ∷ rest ∷ [])) 1 context.per-object-trim-disable-flags 31
     -- good ones, before and behind the object element, and two of them
     ∷ rests (ofElements (trim 0 0 0 (1 ⊳ 0) ∷ rest ∷ []))
@@ -124,7 +124,7 @@ trimCases =
 
 unfoldable pub paddingCases : List Case
 paddingCases =
-    -- "Padding of ids 1 and 2, and of the payload, is zero"; "Padding: its first 1 bit": in the object element, from bit 40,
+    -- padding with a 1 is refused at the first: in the object element, from bit 40,
     fails (ofElements (element 1 (blocks 1 ++ off ++ 4 ⊳ 1) ∷ [])) 2 context.element-padding 43
     ∷ fails (ofElements (element 1 (blocks 1 ++ off ++ 17 ⊳ 3) ∷ [])) 2 context.element-padding 55
     -- in a trim element, from bit 31 and behind one skipped bit,
@@ -133,7 +133,7 @@ paddingCases =
     -- in the payload, from bit 47,
     ∷ fails (bytes (dynamicOnly 1 0 ++ elements (rest ∷ []) ++ 9 ⊳ 1)) 2 context.payload-padding 55
     ∷ rests (bytes (dynamicOnly 1 0 ++ elements (rest ∷ []) ++ 25 ⊳ 0))
-    -- and "A missing object element is found after payload padding"
+    -- and this comes before a missing object element
     ∷ fails (bytes (dynamicOnly 1 0 ++ elements [] ++ 2 ⊳ 1)) 2 context.payload-padding 15
     ∷ []
 

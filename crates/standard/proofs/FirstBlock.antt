@@ -33,7 +33,7 @@ position-first : Always (λ w. isAbsolute w ≡ true) (positionWord true)
 unfolding positionWord absolutely
 position-first = from-pure _ _ (bind _ (after _ _ λ x. after _ _ λ y. after _ _ λ up. after _ _ λ z. given _ refl) λ w h. next _ (given _ h))
 
--- all four groups, with an absolute position
+-- every group is said, and the position in full
 groups-first : Always (λ w. settlesAll (Render.given w) ≡ true) (groups true 15)
 unfolding groups isSet settles settlesAll
 groups-first =

@@ -1,4 +1,4 @@
--- The fraction of a ramp choice: for any timings of u16 numbers it is below 1 exactly when elapsed < ramp.
+-- Document 01, "Ramps", the fraction of a choice: for any u16 timings it is under 1 while elapsed is under the ramp, and only then.
 use Prim.Native.Nat.{ℕ, zero, suc, _*_, _+_, _-_, _^_, _≤_, _<_}
 use mathlib.Core.Path.{_≡_, refl}
 use mathlib.Core.Logic.{_⊎_, inl, inr}
@@ -26,11 +26,11 @@ U16 n = n < 2 ^ 16
 abbrev pub InU16 : Timing → Type 0
 InU16 t = U16 (t .start) × U16 (t .ramp)
 
--- f is below 1 exactly when elapsed < ramp
+-- f is under 1 while elapsed is under the duration, and only then
 abbrev pub BelowWhileRamping : Float → Choice → Type 0
 BelowWhileRamping f c = lt f one ≡ ltb (c .elapsed) (c .duration)
 
--- "The f32 fraction is one division and is below 1 exactly when elapsed < ramp": of any two u16 numbers, the second from 1
+-- the one division rounds no smaller ratio to 1: of any two u16 numbers, the second from 1
 pub fraction-below : (c : Choice) → U16 (c .elapsed) → 0 < c .duration → U16 (c .duration) → BelowWhileRamping (fraction c) c
 unfolding fraction
 fraction-below c E P D = ratio-below (c .elapsed) (c .duration) (omega arith) P (omega arith)

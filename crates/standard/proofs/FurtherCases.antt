@@ -1,4 +1,4 @@
--- Cases of what is said of an object in a block: position, the picture that is kept, basic and render information.
+-- Cases of document 01, "Reading order", of an object in a block: position, the picture that is kept, basic and render information.
 use Prim.Native.Nat.{ℕ}
 use mathlib.Core.List.{List, [], _∷_, _++_}
 use lib.Dec.{T}
@@ -28,22 +28,22 @@ sound gain = first gain (place 31 31 1 0)
 
 unfoldable pub positionCases : List Case
 positionCases =
-    -- "sign (1 positive)"
+    -- Z above by sign 1, below by sign 0
     become 1 1 (first unity (place 10 20 1 5)) (onRow (pos 0) 32 10 20 (pos 5) 1 ∷ [])
     ∷ become 1 1 (first unity (place 10 20 0 5)) (onRow (pos 0) 32 10 20 (neg 5) 1 ∷ [])
-    -- "63 becoming 62", in x and in y
+    -- 63 is taken for 62, in x and in y
     ∷ become 1 1 (first unity (place 63 20 1 15)) (onRow (pos 0) 32 62 20 (pos 15) 1 ∷ [])
     ∷ become 1 1 (first unity (place 10 63 0 15)) (onRow (pos 0) 32 10 62 (neg 15) 1 ∷ [])
-    -- "Distance flag; if 1, infinity flag; if that is 0, 4 bits; all dropped"
+    -- a distance changes nothing: at infinity, and by its 4 bits
     ∷ become 1 1 (on (unity ++ usual ++ spot 10 20 1 5 ++ 1 ⊳ 1 ++ 1 ⊳ 1 ++ rich)) (richRow 1 (pos 0) 32 10 20 (pos 5) 1 ∷ [])
     ∷ become 1 1 (on (unity ++ usual ++ spot 10 20 1 5 ++ 1 ⊳ 1 ++ 1 ⊳ 0 ++ 4 ⊳ 15 ++ rich)) (richRow 1 (pos 0) 32 10 20 (pos 5) 1 ∷ [])
-    -- "steps .. stop at the ends of the range": x at 0, y at 62, z at 15
+    -- steps beyond an end stay there: x at 0, y at 62, z at 15
     ∷ become 1 2 (first unity (place 2 60 1 13) ++ on (kept ++ groups 8 (moved 4 3 3 ++ free)))
     (onRow (pos 0) 32 2 60 (pos 13) 1 ∷ onRow (pos 0) 32 0 62 (pos 15) 1 ∷ [])
     -- x at 62, y at 0, z at -15
     ∷ become 1 2 (first unity (place 60 2 0 13) ++ on (kept ++ groups 8 (moved 3 4 4 ++ free)))
     (onRow (pos 0) 32 60 2 (neg 13) 1 ∷ onRow (pos 0) 32 62 0 (neg 15) 1 ∷ [])
-    -- "run from -4 to 3": between the ends they are added
+    -- between the ends steps of -4 and 3 are added
     ∷ become 1 3 (first unity (place 30 20 1 2) ++ on (kept ++ groups 8 (moved 4 3 4 ++ free)) ++ on (kept ++ groups 8 (moved 3 4 3 ++ free)))
     (onRow (pos 0) 32 30 20 (pos 2) 1 ∷ onRow (pos 0) 32 26 23 (neg 2) 1 ∷ onRow (pos 0) 32 29 19 (pos 1) 1 ∷ [])
     -- a distance is dropped after steps too
@@ -55,11 +55,11 @@ positionCases =
 
 unfoldable pub restCases : List Case
 restCases =
-    -- "Inactive: gain -128, priority 0, picture kept": a rich picture,
+    -- rest sets gain and priority to -128 and 0 and leaves the picture: a rich one,
     become 1 1 richly (richRow 1 (pos 0) 32 10 20 (pos 5) 1 ∷ [])
     -- at rest in the next payload,
     ∷ shows (payload richOne ∷ []) restOne 1 1 0 (richRow 1 (pos 0) 32 10 20 (pos 5) 1 ∷ []) (richRow 0 (neg 128) 0 10 20 (pos 5) 1 ∷ [])
-    -- and shown again in the third: "Render .. 2: kept"
+    -- and shown again in the third, by render status 2
     ∷ shows (payload richOne ∷ payload restOne ∷ []) (said 1 (blocks 2 ++ off ++ on (2 ⊳ 1 ++ unity ++ usual ++ kept))) 1 2 0
     (richRow 0 (neg 128) 0 10 20 (pos 5) 1 ∷ []) (richRow 0 (neg 128) 0 10 20 (pos 5) 1 ∷ richRow 1 (pos 0) 32 10 20 (pos 5) 1 ∷ [])
     ∷ []
@@ -68,19 +68,19 @@ restCases =
 
 unfoldable pub basicCases : List Case
 basicCases =
-    -- "Gain code .. 3: the preceding object's gain in this block, 0 dB if that is .. absent", whatever was retained
+    -- gain code 3 without a neighbour is 0 dB, whatever was retained
     shows (payload (said 1 (blocks 1 ++ sound (level 63))) ∷ []) (said 1 (blocks 1 ++ sound copied)) 1 1 0
     (onRow (neg 49) 32 31 31 (pos 0) 1 ∷ []) (onRow (pos 0) 32 31 31 (pos 0) 1 ∷ [])
-    -- a sounding neighbour: "2: 6 bits w, 15 - w up to 14, then 14 - w"
+    -- with a sounding neighbour it is the neighbour's gain, of word 20: -6 dB
     ∷ become 2 1 (sound (level 20) ++ sound copied) (onRow (neg 6) 32 31 31 (pos 0) 1 ∷ onRow (neg 6) 32 31 31 (pos 0) 1 ∷ [])
-    -- "0 dB if that is silent", by gain code "1: silence", or by rest
+    -- with one that is silent, by gain code 1 or by rest, it is 0 dB
     ∷ become 2 1 (sound silent ++ sound copied) (onRow (neg 128) 32 31 31 (pos 0) 1 ∷ onRow (pos 0) 32 31 31 (pos 0) 1 ∷ [])
     ∷ become 2 1 (off ++ sound copied) (offRow 31 31 (pos 0) 1 ∷ onRow (pos 0) 32 31 31 (pos 0) 1 ∷ [])
-    -- "in this block"
+    -- and each block copies from its own block
     ∷ become 2 2 (sound (level 20) ++ on (2 ⊳ 1 ++ level 0 ++ usual ++ kept) ++ sound copied ++ on (2 ⊳ 1 ++ copied ++ usual ++ kept))
     (onRow (neg 6) 32 31 31 (pos 0) 1 ∷ onRow (neg 6) 32 31 31 (pos 0) 1 ∷ onRow (pos 15) 32 31 31 (pos 0) 1 ∷ onRow (pos 15) 32 31 31 (pos 0) 1 ∷ [])
-    -- Basic 1 in block 0, with a priority of "5 bits"; "3: two flags, gain first": gain alone, priority alone;
-    -- "2: kept"; "Basic 0: gain -128, priority 0"; 3 with both; 3 with neither
+    -- basic status by block: 1, with a priority in 5 bits; 3 with its first flag, for the gain, and with its second, for the priority;
+    -- 2, which keeps both; 0, which sets -128 and 0; 3 with both flags; 3 with neither
     ∷ become 1 7
     (on (level 20 ++ priority 7 ++ place 31 31 1 0 ++ plain)
     ++ on (2 ⊳ 3 ++ 2 ⊳ 2 ++ unity ++ kept)
@@ -102,8 +102,8 @@ basicCases =
 
 unfoldable pub renderCases : List Case
 renderCases =
-    -- "3 (four flags): position, zone, size, screen, then lock always": each alone, none, and two.
-    -- "elevation flag"; "Size 0 none, 1 one for all, 2 three"; "Screen flag, then 3 + 2 dropped bits if set"
+    -- render status 3: its flags one by one (position, zone, size, screen), none, size again, and two; a lock each time.
+    -- A zone with its elevation; one size for all, three sizes, none; a screen with 3 and 2 bits that say nothing, and no screen
     become 1 8
     (first unity (place 10 20 1 5)
     ++ on (kept ++ groups 8 (to 40 50 0 3 ++ locked))
@@ -121,16 +121,16 @@ renderCases =
     ∷ row 1 (pos 0) 32 40 50 (neg 3) 9 9 9 1 1 5 0 1
     ∷ row 1 (pos 0) 32 40 50 (neg 3) 1 2 31 1 1 5 0 1
     ∷ row 1 (pos 0) 32 40 50 (neg 3) 0 0 0 0 0 5 0 1 ∷ [])
-    -- 1: all four past block 0 too; "0: default picture", with gain and priority kept
+    -- status 1 past block 0 says all four groups; status 0 takes the default picture, and gain and priority are kept
     ∷ shows (payload richOne ∷ []) (said 1 (blocks 3 ++ off ++ on (kept ++ 2 ⊳ 1 ++ to 1 2 1 3 ++ rich) ++ on (kept ++ 2 ⊳ 0))) 1 3 0
     (richRow 1 (pos 0) 32 10 20 (pos 5) 1 ∷ [])
     (richRow 0 (neg 128) 0 10 20 (pos 5) 1 ∷ richRow 1 (neg 128) 0 1 2 (pos 3) 1 ∷ onRow (neg 128) 0 31 31 (pos 0) 1 ∷ [])
-    -- "Zone 3 bits, 6 and 7 Invalid": at bit 60
+    -- there are no zones 6 and 7: at bit 60
     ∷ fails (said 1 (blocks 1 ++ on (unity ++ usual ++ place 10 20 1 5 ++ 3 ⊳ 6 ++ 5 ⊳ 0))) 2 context.zone-constraints-index 60
     ∷ fails (said 1 (blocks 1 ++ on (unity ++ usual ++ place 10 20 1 5 ++ 3 ⊳ 7 ++ 5 ⊳ 0))) 2 context.zone-constraints-index 60
-    -- "Size .. 3 Invalid": at bit 64
+    -- and no size code 3: at bit 64
     ∷ fails (said 1 (blocks 1 ++ on (unity ++ usual ++ place 10 20 1 5 ++ 3 ⊳ 0 ++ 1 ⊳ 1 ++ 2 ⊳ 3 ++ 2 ⊳ 0))) 2 context.object-size-index 64
-    -- the element's "end cuts its reads": a depth, at bit 71
+    -- a depth, cut by the element's end: at bit 71
     ∷ fails (said 1 (blocks 1 ++ 1 ⊳ 0 ++ unity ++ usual ++ place 10 20 1 5 ++ 3 ⊳ 0 ++ 1 ⊳ 1 ++ 2 ⊳ 2 ++ 5 ⊳ 0)) 1 context.object-depth 71
     ∷ []
 

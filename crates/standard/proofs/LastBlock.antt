@@ -1,4 +1,4 @@
--- Acceptance retains the last block: the retained rows are the rows of that block, and lie as they do in the table.
+-- What an accepted payload leaves: the retained rows are the rows of its last block, and lie as they do in the table.
 use Prim.Native.Nat.{ℕ, zero, suc, _+_, _*_}
 use mathlib.Core.Path.{_≡_, refl, sym, _∙_, ap}
 use mathlib.Core.List.{List, [], _∷_, _++_, append-assoc, append-nil, map}

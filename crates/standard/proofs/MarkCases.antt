@@ -1,4 +1,4 @@
--- Cases of what stands between payloads: retained rows, changed kinds, doubt, reset, and marks.
+-- Cases of document 01, "Marks and doubt", and of what stands between payloads: retained rows, changed kinds, reset.
 use Prim.Native.Nat.{ℕ}
 use mathlib.Core.List.{List, [], _∷_, _++_}
 use lib.Dec.{T}
@@ -28,13 +28,13 @@ settles b x y z m u =
 
 unfoldable pub retainedCases : List Case
 retainedCases =
-    -- "Block 0 starts from the retained row if the kinds equal the retained kinds": a second payload that differs from the first
+    -- the same kinds go on from the retained row: a second payload that differs from the first
     shows (payload movedOne ∷ []) (said 1 (blocks 1 ++ first (level 20) (place 40 50 0 3))) 1 1 0
     (onRow (pos 0) 32 10 20 (pos 5) 1 ∷ []) (onRow (neg 6) 32 40 50 (neg 3) 1 ∷ [])
-    -- "Acceptance retains the last block"
+    -- of two blocks the second is retained
     ∷ shows (payload (said 1 (blocks 2 ++ first unity (place 1 2 1 3) ++ on (kept ++ groups 8 (to 40 50 0 3 ++ free)))) ∷ []) restOne 1 1 0
     (onRow (pos 0) 32 40 50 (neg 3) 1 ∷ []) (offRow 40 50 (neg 3) 1 ∷ [])
-    -- "else from default", with mark "1 with changed kinds": more objects
+    -- other kinds begin at the default, settled: more objects
     ∷ shows (payload movedOne ∷ []) restTwo 2 1 0 (defaultOf 3 1 ∷ defaultOf 3 1 ∷ []) (inactiveOf 3 1 ∷ inactiveOf 3 1 ∷ [])
     -- as many, of another kind
     ∷ shows (payload movedOne ∷ []) (saidWithLfe 1 (blocks 1 ++ off)) 1 1 0 (defaultOf 0 1 ∷ []) (inactiveOf 0 1 ∷ [])
@@ -46,9 +46,9 @@ retainedCases =
 
 unfoldable pub doubtCases : List Case
 doubtCases =
-    -- "Start rows: mark 0 for all if doubt", here with equal kinds; at rest the block row's mark is "as before it"
+    -- doubt unsettles the start row, here of equal kinds; at rest the block row stays so
     shows doubtful restOne 1 1 1 (onRow (pos 0) 32 10 20 (pos 5) 0 ∷ []) (offRow 10 20 (pos 5) 0 ∷ [])
-    -- "always when active in block 0"
+    -- an active first block settles
     ∷ shows doubtful (said 1 (blocks 1 ++ first unity (place 1 2 1 3))) 1 1 0 (onRow (pos 0) 32 10 20 (pos 5) 0 ∷ []) (onRow (pos 0) 32 1 2 (pos 3) 1 ∷ [])
     -- and so to the end of the frame
     ∷ shows doubtful (said 1 (blocks 3 ++ first unity (place 1 2 1 3) ++ on (kept ++ groups 8 (moved 1 1 1 ++ free)) ++ off)) 1 3 0
@@ -58,7 +58,7 @@ doubtCases =
     (defaultOf 3 0 ∷ defaultOf 3 0 ∷ []) (onRow (pos 0) 32 1 2 (pos 3) 1 ∷ inactiveOf 3 0 ∷ [])
     -- a gap before the first payload
     ∷ shows (gapNotice ∷ []) restOne 1 1 1 (defaultOf 3 0 ∷ []) (inactiveOf 3 0 ∷ [])
-    -- "Block rows: fixed kinds 1": changed kinds, and equal ones
+    -- fixed kinds are settled in a block: changed kinds, and equal ones
     ∷ shows (gapNotice ∷ []) restWithLfe 2 1 1 (defaultOf 0 0 ∷ defaultOf 3 0 ∷ []) (inactiveOf 0 1 ∷ inactiveOf 3 0 ∷ [])
     ∷ shows (payload restWithLfe ∷ gapNotice ∷ []) restWithLfe 2 1 1 (inactiveOf 0 0 ∷ inactiveOf 3 0 ∷ []) (inactiveOf 0 1 ∷ inactiveOf 3 0 ∷ [])
     ∷ []
@@ -67,15 +67,15 @@ doubtCases =
 
 unfoldable pub clearingCases : List Case
 clearingCases =
-    -- "Acceptance .. clears doubt; refusal doesn't": after the refused `40` the start row is still in doubt
+    -- a refused payload leaves doubt: after `40` the start row has it still
     shows (payload movedOne ∷ gapNotice ∷ payload (0x40 ∷ []) ∷ []) restOne 1 1 1 (onRow (pos 0) 32 10 20 (pos 5) 0 ∷ []) (offRow 10 20 (pos 5) 0 ∷ [])
-    -- after an accepted payload changed kinds have mark 1,
+    -- an accepted one ends it: then changed kinds have mark 1,
     ∷ shows (payload movedOne ∷ gapNotice ∷ payload restOne ∷ []) restTwo 2 1 0 (defaultOf 3 1 ∷ defaultOf 3 1 ∷ []) (inactiveOf 3 1 ∷ inactiveOf 3 1 ∷ [])
-    -- equal kinds "the retained mark": 0 after rest,
+    -- equal kinds the mark that was kept: 0 after rest,
     ∷ shows (payload movedOne ∷ gapNotice ∷ payload restOne ∷ []) restOne 1 1 1 (offRow 10 20 (pos 5) 0 ∷ []) (offRow 10 20 (pos 5) 0 ∷ [])
     -- 1 after an active block 0
     ∷ shows (payload movedOne ∷ gapNotice ∷ payload movedOne ∷ []) restOne 1 1 0 (onRow (pos 0) 32 10 20 (pos 5) 1 ∷ []) (offRow 10 20 (pos 5) 1 ∷ [])
-    -- "Reset writes 1,922 zeros", the doubt among them
+    -- a reset ends it too
     ∷ shows (payload movedOne ∷ gapNotice ∷ resetNotice ∷ []) restOne 1 1 0 (defaultOf 3 1 ∷ []) (inactiveOf 3 1 ∷ [])
     ∷ []
 
@@ -83,12 +83,12 @@ clearingCases =
 
 unfoldable pub settlingCases : List Case
 settlingCases =
-    -- "Dynamic: 1 after render status 0"
+    -- a Dynamic is settled by render status 0
     settles (2 ⊳ 0) 31 31 0 1 0
-    -- "or after all four groups with an absolute position": render status 1, and 3 with four flags
+    -- and by every group with the place in full: render status 1, and 3 with four flags
     ∷ settles (2 ⊳ 1 ++ to 1 2 1 3 ++ plain) 1 2 3 1 0
     ∷ settles (groups 15 (to 1 2 1 3 ++ plain)) 1 2 3 1 0
-    -- "otherwise as before it": a differential position,
+    -- else the mark stays: steps for a place,
     ∷ settles (2 ⊳ 1 ++ moved 1 1 1 ++ plain) 11 21 6 0 1
     ∷ settles (groups 15 (moved 1 1 1 ++ plain)) 11 21 6 0 1
     -- one group missing: position, zone, size, screen;
@@ -98,7 +98,7 @@ settlingCases =
     ∷ settles (groups 14 (to 1 2 1 3 ++ 3 ⊳ 0 ++ 1 ⊳ 1 ++ 2 ⊳ 0 ++ free)) 1 2 3 0 1
     -- render status 2
     ∷ settles kept 10 20 5 0 1
-    -- "A mark covers the picture as one thing": position and zone in one block, size and screen in the next, settle nothing
+    -- there are no halves of a mark: position and zone in one block, size and screen in the next, settle nothing
     ∷ shows doubtful (said 1 (blocks 3 ++ off ++ on (kept ++ groups 12 (to 1 2 1 3 ++ 3 ⊳ 0 ++ 1 ⊳ 1 ++ free)) ++ on (kept ++ groups 3 (2 ⊳ 0 ++ 1 ⊳ 0 ++ free)))) 1 3 1
     (onRow (pos 0) 32 10 20 (pos 5) 0 ∷ []) (offRow 10 20 (pos 5) 0 ∷ onRow (neg 128) 0 1 2 (pos 3) 0 ∷ onRow (neg 128) 0 1 2 (pos 3) 0 ∷ [])
     ∷ []

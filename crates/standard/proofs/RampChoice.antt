@@ -1,4 +1,4 @@
--- What the ramp choice is for timings that pass the timing test: before the first start, inside a ramp, and past a ramp's end.
+-- Document 01, "Ramps", for timings that pass the test: the choice before the first start, inside a ramp, and past a ramp's end.
 use Prim.Native.Nat.{ℕ, suc, _+_, _-_, _≤_, _<_}
 use mathlib.Core.Path.{_≡_, refl, _∙_}
 use mathlib.Core.Logic.{_↔_}
@@ -101,7 +101,7 @@ reaches sample m n (u ∷ before) t after h k =
     goes-on sample n u _ (omega arith) ∙ reaches sample (endOf u) (suc n) before t after (h .2) k ∙ rw (suc-add, add-suc)
 
 module _ (sample : ℕ) where
-  -- "begin with start row to start row, 1/1": before the first start
+  -- before the first start the start row stands
   pub before-all : (ts : List Timing) → Before sample ts → choice sample ts ≡ still 0
   unfolding choice
   before-all ts h = waits sample 0 ts h
@@ -111,11 +111,11 @@ module _ (sample : ℕ) where
     unfolding choice
     reached h = reaches sample 0 0 before t after (passing _ .0 passes) h ∙ rw zero-add
 
-    -- "answer from the rows so far to this block, elapsed/ramp": from a start to the ramp's end
+    -- from a start to its ramp's end: on the way from the row before to this block
     pub inside : t .start ≤ sample → sample < endOf t
         → choice sample (before ++ t ∷ after) ≡ record { from = length before; to = suc (length before); elapsed = sample - t .start; duration = t .ramp }
     inside h k = reached h ∙ stops sample _ t after h k
 
-    -- "both rows become this block, 1/1": from a ramp's end to the next start, or to the frame's end
+    -- from a ramp's end to the next start, or to the frame's end: this block stands
     pub past : endOf t ≤ sample → Before sample after → choice sample (before ++ t ∷ after) ≡ still (suc (length before))
     past h k = reached (omega arith) ∙ goes-on sample _ t after h ∙ waits sample _ after k

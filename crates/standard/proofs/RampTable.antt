@@ -26,7 +26,7 @@ none-over n [] i e = omega arith
 none-over n (a ∷ l) zero e = leb-true a n (and-eq-true-iff (leb a n) (noneOver n l) .0 e .0)
 none-over n (a ∷ l) (suc i) e = none-over n l i (and-eq-true-iff (leb a n) (noneOver n l) .0 e .1)
 
--- "A constant table of sixteen ramp durations .. all entries at most 2,048"
+-- they are sixteen, and none is over 2,048
 pub durations : (length rampDurations ≡ 16) × (noneOver 2048 rampDurations ≡ true)
 unfolding rampDurations
 durations = (refl, refl)

@@ -1,4 +1,4 @@
--- Cases of the version and the counts, the program assignment, the timings and the table data.
+-- Cases of document 01, "Reading order": version and counts, program assignment, timings, table data.
 use Prim.Native.Nat.{ℕ, _-_}
 use mathlib.Core.List.{List, [], _∷_, _++_, map, flatten}
 use lib.Dec.{T}
@@ -16,7 +16,7 @@ assigned n content = 2 ⊳ 0 ++ 5 ⊳ (n - 1) ++ 1 ⊳ 0 ++ content
 unfoldable pub atRest : ℕ → Bits
 atRest n = flatten (replicate n off)
 
--- the content gives these kinds (0 Lfe, 1 Bed, 2 Isf, 3 Dynamic), all at rest in one block
+-- the content gives these kinds (Lfe, Bed, Isf, Dynamic: 0 to 3), all at rest in one block
 unfoldable pub assigns : Bits → List ℕ → Case
 assigns content ks =
     let n = length ks in
@@ -52,15 +52,15 @@ lfeOnly = 1 ⊳ 1
 
 unfoldable pub countCases : List Case
 countCases =
-    -- "Version 2 bits, 3 adds 3 more; only 0 is supported"
+    -- versions 3 and 8, each in two parts, are not supported
     fails (bytes (2 ⊳ 3 ++ 3 ⊳ 0)) 4 context.version 0
     ∷ fails (bytes (2 ⊳ 3 ++ 3 ⊳ 5)) 4 context.version 0
-    -- "Count 5 bits, 31 adds 7 more, plus 1": 32 objects
+    -- a count in two parts, 31 and 0: 32 objects
     ∷ shows [] (bytes (2 ⊳ 0 ++ 5 ⊳ 31 ++ 7 ⊳ 0 ++ 1 ⊳ 1 ++ 1 ⊳ 0 ++ elements (element 1 (blocks 1 ++ atRest 32) ∷ []))) 32 1 0
     (replicate 32 (defaultOf 3 1)) (replicate 32 (inactiveOf 3 1))
-    -- "A cut extension .. where that read begins"
+    -- the second part cut: at its own first bit
     ∷ fails (bytes (2 ⊳ 0 ++ 5 ⊳ 31)) 1 context.extended-object-count 7
-    -- "Dynamic-only flag; if set, an LFE flag, Lfe first, the rest Dynamic". An Lfe has basic information and no render information
+    -- dynamic-only, and an Lfe before two Dynamic. An Lfe has basic information and no render information
     ∷ shows [] (saidWithLfe 3 (blocks 1 ++ on (level 20 ++ usual) ++ first unity (place 1 2 1 3) ++ off)) 3 1 0
     (defaultOf 0 1 ∷ defaultOf 3 1 ∷ defaultOf 3 1 ∷ [])
     (plainRow (pos 0) (pos 1) (neg 6) (pos 32) (pos 31) (pos 31) (pos 0) (pos 1) ∷ onRow (pos 0) 32 1 2 (pos 3) 1 ∷ offRow 31 31 (pos 0) 1 ∷ [])
@@ -71,21 +71,21 @@ countCases =
 
 unfoldable pub assignmentCases : List Case
 assignmentCases =
-    -- "standard flag and 10 bits with widths 1,2,2,2,2,2,2,1,1,2 from bit 0, the lowest (0 and 7 Lfe)": bits 0, 1, 7
+    -- a standard bed by its bits, the lowest first, widths 1,2,2,2,2,2,2,1,1,2, an Lfe at 0 and 7: bits 0, 1, 7
     assigns (oneBed (standard 0b0010000011)) (0 ∷ 1 ∷ 1 ∷ 0 ∷ [])
     -- bits 8 and 9
     ∷ assigns (oneBed (standard 0b1100000000)) (1 ∷ 1 ∷ 1 ∷ [])
     -- all of them
     ∷ assigns (oneBed (standard 0b1111111111)) (0 ∷ replicate 12 1 ++ 0 ∷ 1 ∷ 1 ∷ 1 ∷ [])
-    -- "or 17 bits of width 1 (0 and 13 Lfe); the others Bed": bits 0, 12, 13, 16
+    -- a nonstandard one has 17, one object each, an Lfe at 0 and 13: bits 0, 12, 13, 16
     ∷ assigns (oneBed (nonstandard 0b10011000000000001)) (0 ∷ 1 ∷ 0 ∷ 1 ∷ [])
     ∷ assigns (oneBed (nonstandard 0b11111111111111111)) (0 ∷ replicate 12 1 ++ 0 ∷ 1 ∷ 1 ∷ 1 ∷ [])
-    -- "LFE-only flag, giving one Lfe"
+    -- a bed of an Lfe only
     ∷ assigns (oneBed lfeOnly) (0 ∷ [])
-    -- "multiple flag, then 3 bits + 2 beds": two, and three; the distribution flag says nothing
+    -- several beds, coded less 2: two, and three; the distribution flag says nothing
     ∷ assigns (4 ⊳ 8 ++ 1 ⊳ 0 ++ 1 ⊳ 1 ++ 3 ⊳ 0 ++ lfeOnly ++ standard 2) (0 ∷ 1 ∷ 1 ∷ [])
     ∷ assigns (4 ⊳ 8 ++ 1 ⊳ 1 ++ 1 ⊳ 1 ++ 3 ⊳ 1 ++ nonstandard 2 ++ lfeOnly ++ standard 256) (1 ∷ 0 ∷ 1 ∷ [])
-    -- "3 bits choose 4, 8, 10, 14, 15, 30 Isf; 6 and 7 Invalid"
+    -- the six numbers of Isf objects, and the two indices that have none
     ∷ assigns (4 ⊳ 4 ++ 3 ⊳ 0) (replicate 4 2)
     ∷ assigns (4 ⊳ 4 ++ 3 ⊳ 1) (replicate 8 2)
     ∷ assigns (4 ⊳ 4 ++ 3 ⊳ 2) (replicate 10 2)
@@ -94,19 +94,19 @@ assignmentCases =
     ∷ assigns (4 ⊳ 4 ++ 3 ⊳ 5) (replicate 30 2)
     ∷ fails (bytes (assigned 4 (4 ⊳ 4 ++ 3 ⊳ 6))) 2 context.intermediate-spatial-format-index 12
     ∷ fails (bytes (assigned 4 (4 ⊳ 4 ++ 3 ⊳ 7))) 2 context.intermediate-spatial-format-index 12
-    -- "Dynamic count coded as the object count"
+    -- two Dynamic objects, coded less 1
     ∷ assigns (4 ⊳ 2 ++ 5 ⊳ 1) (3 ∷ 3 ∷ [])
-    -- "up to 159", which no object count is; the flag is at bit 14
+    -- 159, the most that can be said, is no object count; the flag is at bit 14
     ∷ fails (bytes (2 ⊳ 0 ++ 5 ⊳ 31 ++ 7 ⊳ 96 ++ 1 ⊳ 0 ++ 4 ⊳ 2 ++ 5 ⊳ 31 ++ 7 ⊳ 127)) 2 context.program-assignment-object-count 14
-    -- "4 bits + 1 bytes skipped"
+    -- two reserved bytes, coded less 1, say nothing
     ∷ assigns (4 ⊳ 3 ++ 5 ⊳ 0 ++ 4 ⊳ 1 ++ 16 ⊳ 0xffff) (3 ∷ [])
-    -- "content, 4 bits, from its highest"
+    -- all four contents in one: beds, Isf, Dynamic, reserved
     ∷ assigns (4 ⊳ 15 ++ 1 ⊳ 0 ++ 1 ⊳ 0 ++ lfeOnly ++ 3 ⊳ 0 ++ 5 ⊳ 1 ++ 4 ⊳ 0 ++ 8 ⊳ 0xff) (0 ∷ 2 ∷ 2 ∷ 2 ∷ 2 ∷ 3 ∷ 3 ∷ [])
-    -- "The total must equal the count": at the dynamic-only flag, too many, too few and none
+    -- kinds that are not as many as the objects, at the dynamic-only flag: too many, too few and none
     ∷ fails (bytes (assigned 1 (4 ⊳ 2 ++ 5 ⊳ 1))) 2 context.program-assignment-object-count 7
     ∷ fails (bytes (assigned 3 (4 ⊳ 2 ++ 5 ⊳ 1))) 2 context.program-assignment-object-count 7
     ∷ fails (bytes (assigned 1 (4 ⊳ 0))) 2 context.program-assignment-object-count 7
-    -- "tested last": reserved data that is cut comes before it, and stands where the run begins
+    -- reserved data that is cut comes before this, at its first bit
     ∷ fails (bytes (assigned 1 (4 ⊳ 3 ++ 5 ⊳ 1 ++ 4 ⊳ 15))) 1 context.program-assignment-reserved-data 21
     ∷ []
 
@@ -114,26 +114,26 @@ assignmentCases =
 
 unfoldable pub timingCases : List Case
 timingCases =
-    -- "offset code 0 gives 0", and a start is "6 bits × 32 plus offset"
+    -- without an offset a start is 32 times its factor
     runs (2 ⊳ 0) (block 0 (2 ⊳ 0) ∷ block 1 (2 ⊳ 0) ∷ block 63 (2 ⊳ 0) ∷ []) (0 ∷ 0 ∷ 32 ∷ 0 ∷ 2016 ∷ 0 ∷ [])
-    -- "1 one of 8, 16, 18, 24 by 2 bits"
+    -- the four offsets of code 1, added to every start
     ∷ runs (2 ⊳ 1 ++ 2 ⊳ 0) (block 0 (2 ⊳ 0) ∷ block 1 (2 ⊳ 0) ∷ []) (8 ∷ 0 ∷ 40 ∷ 0 ∷ [])
     ∷ runs (2 ⊳ 1 ++ 2 ⊳ 1) (block 0 (2 ⊳ 0) ∷ []) (16 ∷ 0 ∷ [])
     ∷ runs (2 ⊳ 1 ++ 2 ⊳ 2) (block 0 (2 ⊳ 0) ∷ []) (18 ∷ 0 ∷ [])
     ∷ runs (2 ⊳ 1 ++ 2 ⊳ 3) (block 0 (2 ⊳ 0) ∷ []) (24 ∷ 0 ∷ [])
-    -- "2 gives 5 bits, 3 Invalid"
+    -- an offset in 5 bits, by code 2; there is no code 3
     ∷ runs (2 ⊳ 2 ++ 5 ⊳ 31) (block 0 (2 ⊳ 0) ∷ block 63 (2 ⊳ 0) ∷ []) (31 ∷ 0 ∷ 2047 ∷ 0 ∷ [])
     ∷ fails (said 1 (timed (2 ⊳ 3) (block 0 (2 ⊳ 0) ∷ []) ++ off)) 2 context.sample-offset-code 24
-    -- "ramp code 0, 512, 1536, or a flag choosing 4 bits into .., else 11 bits"
+    -- ramps by code alone, three of them, and in 11 bits
     ∷ runs (2 ⊳ 0)
     (block 0 (2 ⊳ 0) ∷ block 1 (2 ⊳ 1) ∷ block 2 (2 ⊳ 2) ∷ block 3 (2 ⊳ 3 ++ 1 ⊳ 0 ++ 11 ⊳ 2047) ∷ block 4 (2 ⊳ 3 ++ 1 ⊳ 0 ++ 11 ⊳ 1) ∷ block 5 (2 ⊳ 0) ∷ [])
     (0 ∷ 0 ∷ 32 ∷ 512 ∷ 64 ∷ 1536 ∷ 96 ∷ 2047 ∷ 128 ∷ 1 ∷ 160 ∷ 0 ∷ [])
-    -- the whole table
+    -- the whole table of indexed ramps
     ∷ runs (2 ⊳ 0) (indexed 0 ∷ indexed 1 ∷ indexed 2 ∷ indexed 3 ∷ indexed 4 ∷ indexed 5 ∷ indexed 6 ∷ indexed 7 ∷ [])
     (0 ∷ 32 ∷ 0 ∷ 64 ∷ 0 ∷ 128 ∷ 0 ∷ 256 ∷ 0 ∷ 320 ∷ 0 ∷ 480 ∷ 0 ∷ 1000 ∷ 0 ∷ 1001 ∷ [])
     ∷ runs (2 ⊳ 0) (indexed 8 ∷ indexed 9 ∷ indexed 10 ∷ indexed 11 ∷ indexed 12 ∷ indexed 13 ∷ indexed 14 ∷ indexed 15 ∷ [])
     (0 ∷ 1024 ∷ 0 ∷ 1600 ∷ 0 ∷ 1601 ∷ 0 ∷ 1602 ∷ 0 ∷ 1920 ∷ 0 ∷ 2000 ∷ 0 ∷ 2002 ∷ 0 ∷ 2048 ∷ [])
-    -- "Reserved-absent flag; if 0, 5 zero bits"
+    -- reserved bits, where there are any, are 0
     ∷ shows [] (said 1 (2 ⊳ 0 ++ 3 ⊳ 0 ++ 6 ⊳ 0 ++ 2 ⊳ 0 ++ 1 ⊳ 0 ++ 5 ⊳ 0 ++ off)) 1 1 0 (defaultOf 3 1 ∷ []) (offRow 31 31 (pos 0) 1 ∷ [])
     ∷ fails (said 1 (2 ⊳ 0 ++ 3 ⊳ 0 ++ 6 ⊳ 0 ++ 2 ⊳ 0 ++ 1 ⊳ 0 ++ 5 ⊳ 1 ++ off)) 2 context.object-element-reserved-data 38
     ∷ []
@@ -142,7 +142,7 @@ timingCases =
 
 unfoldable pub tableDataCases : List Case
 tableDataCases =
-    -- "Last, a table-data flag with 4 bits + 1 bytes skipped": after an inactive and after an active block, and what follows is read
+    -- table data of two bytes behind an inactive block and of one behind an active: what follows is read
     shows []
     (said 3 (blocks 1
     ++ 1 ⊳ 1 ++ 1 ⊳ 1 ++ 4 ⊳ 1 ++ 16 ⊳ 0xffff

@@ -1,4 +1,4 @@
--- Every start and block row that decode writes from a table in form passes the test of a row to be shown: 6 never meets a used row.
+-- Used rows can be shown: given a retained table in form, decode writes no start or block row that the row calls refuse with 6.
 use Prim.Native.Nat.{ℕ, _+_, _*_, _<_}
 use mathlib.Core.Path.{_≡_, refl}
 use mathlib.Core.List.{List, [], _∷_, _++_}

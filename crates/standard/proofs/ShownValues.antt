@@ -14,7 +14,7 @@ use Rattle.standard.specs.Shown.{silent, decibels, Shown, shownGain, sho
 abbrev pub half : Float
 half = fin false 1 (negsuc 0)
 
--- "position is x/62, y/62, z/15 .. one f32 division each": 31/62 is 1/2
+-- x and y are in 62nds, z is in 15ths, by one division: 31/62 is 1/2
 pub middle : ratio (pos 31) 62 ≡ half
 unfolding div ofInt
 middle = refl
@@ -34,7 +34,7 @@ pub highest-priority : ratio (pos 32) 32 ≡ one
 unfolding div ofInt
 highest-priority = refl
 
--- "A gain is shown as silence or as a decibel figure": -128 is silence, 15 is 15.0 dB
+-- a gain of -128 is silence, one of 15 is 15.0 dB
 pub silence-shown : shownGain (negsuc 127) ≡ silent
 unfolding shownGain
 silence-shown = refl
@@ -43,12 +43,12 @@ pub fifteen-shown : shownGain (pos 15) ≡ decibels (fin false 15 (pos 0))
 unfolding shownGain ofInt
 fifteen-shown = refl
 
--- "an Lfe always shows (-1, 1, -1)"
+-- an Lfe is at (-1, 1, -1), whatever its row says
 pub lfe-shown : (r : Row) → r .kind ≡ pos 0 → (shown r .x ≡ minusOne) × (shown r .y ≡ one) × (shown r .z ≡ minusOne)
 unfolding shown
 lfe-shown r e = (rw e, rw e, rw e)
 
--- "On any refusal every further number and float handed back is 0, a gain silence": all +0
+-- what a refusal shows: +0 everywhere, and silence
 abbrev floats : Shown → List Float
 floats s = s .x ∷ s .y ∷ s .z ∷ s .width ∷ s .depth ∷ s .height ∷ s .priority ∷ []
 

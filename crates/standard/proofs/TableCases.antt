@@ -17,7 +17,7 @@ use Rattle.standard.specs.Cases.{refuses, allHold}
 use Rattle.standard.proofs.Small.{and-left, and-right}
 use Rattle.standard.proofs.Writer.{_⊳_, said, block, timed, unity, place, first, restOne, neg, row, onRow, offRow, defaultOf, inactiveOf, written}
 
--- "Decode tests 5, 6, 7, then the payload", and each leaves everything unchanged
+-- Room, form and size (5, 6, 7) come in this order and before the payload, and what they refuse changes nothing
 
 abbrev pub Untouched : ℕ → List ℕ → Lent → Type 0
 Untouched n s l = decode s l ≡ unchanged l n
@@ -66,24 +66,24 @@ altered i v = one (set (defaultOf 3 1) i v)
 
 unfoldable pub broken : List (List ℤ)
 broken =
-    -- "count 0..128"
+    -- counts outside 0 to 128
     (pos 129 ∷ pos 0 ∷ flatten (replicate 128 (defaultOf 3 1))) ∷ (neg 1 ∷ pos 0 ∷ defaultOf 3 1)
-    -- "kind 0..3; flags, mark and doubt 0 or 1"
+    -- kinds outside 0 to 3; flags, a mark and a doubt that are neither 0 nor 1
     ∷ altered 0 (pos 4) ∷ altered 0 (neg 1) ∷ altered 1 (pos 2) ∷ altered 10 (pos 2) ∷ altered 11 (pos 2) ∷ altered 13 (pos 2) ∷ altered 14 (pos 2) ∷ altered 14 (neg 1)
     ∷ (pos 0 ∷ pos 2 ∷ []) ∷ (pos 0 ∷ neg 1 ∷ [])
-    -- "gain -128 or -49..15; priority 0..32"
+    -- gains outside -49 to 15 that are not -128; priorities outside 0 to 32
     ∷ altered 2 (pos 16) ∷ altered 2 (neg 50) ∷ altered 2 (neg 127) ∷ altered 2 (neg 129) ∷ altered 3 (pos 33) ∷ altered 3 (neg 1)
-    -- "x, y 0..62; z -15..15"
+    -- x and y outside 0 to 62, z outside -15 to 15
     ∷ altered 4 (pos 63) ∷ altered 4 (neg 1) ∷ altered 5 (pos 63) ∷ altered 5 (neg 1) ∷ altered 6 (pos 16) ∷ altered 6 (neg 16)
-    -- "sizes 0..31; zone 0..5"
+    -- sizes outside 0 to 31, zones outside 0 to 5
     ∷ altered 7 (pos 32) ∷ altered 8 (pos 32) ∷ altered 9 (pos 32) ∷ altered 9 (neg 1) ∷ altered 12 (pos 6) ∷ altered 12 (neg 1)
-    -- "an inactive row has gain -128, priority 0"
+    -- at rest with a priority, and with a gain
     ∷ one (row 0 (neg 128) 1 31 31 (pos 0) 0 0 0 0 0 0 1 1) ∷ one (row 0 (pos 0) 0 31 31 (pos 0) 0 0 0 0 0 0 1 1)
-    -- "a fixed kind (not Dynamic) has the default picture": each number of it, of a Bed
+    -- fixed kinds whose picture is not the default: each number of it, of a Bed,
     ∷ one (set (defaultOf 1 1) 4 (pos 30)) ∷ one (set (defaultOf 1 1) 5 (pos 30)) ∷ one (set (defaultOf 1 1) 6 (pos 1))
     ∷ one (set (defaultOf 1 1) 7 (pos 1)) ∷ one (set (defaultOf 1 1) 8 (pos 1)) ∷ one (set (defaultOf 1 1) 9 (pos 1))
     ∷ one (set (defaultOf 1 1) 10 (pos 1)) ∷ one (set (defaultOf 1 1) 11 (pos 1)) ∷ one (set (defaultOf 1 1) 12 (pos 1)) ∷ one (set (defaultOf 1 1) 13 (pos 0))
-    -- of an Lfe and an Isf; "and mark 1"
+    -- of an Lfe and an Isf; and such that are not settled
     ∷ one (set (defaultOf 0 1) 4 (pos 30)) ∷ one (set (defaultOf 2 1) 4 (pos 30))
     ∷ one (defaultOf 0 0) ∷ one (defaultOf 1 0) ∷ one (defaultOf 2 0)
     -- in any row
@@ -97,7 +97,7 @@ whole =
     ∷ altered 2 (pos 15) ∷ altered 2 (neg 49) ∷ altered 2 (neg 128) ∷ altered 3 (pos 0)
     ∷ altered 4 (pos 0) ∷ altered 4 (pos 62) ∷ altered 5 (pos 0) ∷ altered 5 (pos 62) ∷ altered 6 (pos 15) ∷ altered 6 (neg 15)
     ∷ one (row 1 (pos 0) 32 0 0 (pos 0) 31 31 31 1 1 5 0 0)
-    -- "Rows past the count are ignored"
+    -- what lies behind the count is not looked at
     ∷ one (defaultOf 3 1 ++ replicate 15 (pos 99)) ∷ []
 
 unfoldable pub isBroken : List ℤ → Bool
@@ -130,7 +130,7 @@ pub whole-tables : T (allWhole whole)
 unfolding written whole holding allWhole
 whole-tables = tt
 
--- 7: "payload over 16,384 bytes", whatever tables are lent
+-- 7: a payload of 16,385 bytes, whatever tables are lent
 
 pub long-payload : (l : Lent) → hasRoom l ≡ true → inForm (l .retained) ≡ true → Untouched 7 (replicate 16385 0) l
 unfolding written
@@ -146,7 +146,7 @@ longest-payload = tt
 unfoldable pub sevens : Lent
 sevens = record { retained = pos 0 ∷ pos 0 ∷ replicate 1921 (pos 7); start = replicate 1921 (pos 7); blocks = replicate 15361 (pos 7); timings = replicate 17 7 }
 
--- "used rows and timings written; retained's 1,922 numbers rewritten; rest unchanged"
+-- accepted: a row of start and of blocks, two timings and all 1,922 retained numbers are written; the sevens behind stay
 pub accepted-leaves : decode restOne sevens .lent ≡ record {
   retained = pos 1 ∷ pos 0 ∷ offRow 31 31 (pos 0) 1 ++ replicate 1905 (pos 0) ++ pos 7 ∷ [];
   start = defaultOf 3 1 ++ replicate 1906 (pos 7);
@@ -156,7 +156,7 @@ pub accepted-leaves : decode restOne sevens .lent ≡ record {
 unfolding written sevens
 accepted-leaves = refl
 
--- "retained unchanged; the needed length of start, blocks, timings set to 0; rest unchanged"
+-- refused: the retained table stays; the others are 0 as far as they are needed, and the sevens behind stay
 pub refused-leaves : decode [] sevens .lent ≡ record {
   retained = pos 0 ∷ pos 0 ∷ replicate 1921 (pos 7);
   start = replicate 1920 (pos 0) ++ pos 7 ∷ [];
@@ -166,7 +166,7 @@ pub refused-leaves : decode [] sevens .lent ≡ record {
 unfolding written sevens
 refused-leaves = refl
 
--- "Decoding has retained the frame already"
+-- The timing call comes when the frame is already retained
 
 -- a block that starts at 1,568
 abbrev late : List ℕ

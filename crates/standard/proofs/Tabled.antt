@@ -136,7 +136,7 @@ module _ (Q : Tree → Type 0) (s : List ℕ) (holds : Ok Q (taken s)) where
 
 -- Reset and gap
 
--- all zeros is a fresh decoder
+-- zeros are the numbers of the fresh state
 zeros-fresh : replicate retainedLength (pos 0) ≡ stateNumbers fresh
 unfolding retainedLength stateNumbers rowsNumbers fresh
 zeros-fresh = refl

@@ -80,7 +80,7 @@ pub writes-nothing : Breaks idle restOne freshTables
 unfolding written idle
 writes-nothing = tells (blockIs 0 (pos 0)) refl refl
 
--- Resolves the first payload truly and then copies it: where rows are retained, they are the frame, whatever the payload says
+-- Decodes one payload and from then on repeats its rows: where rows are retained, they are the frame, whatever the payload says
 
 unfoldable pub copying : Decoder
 copying s l =
@@ -148,9 +148,9 @@ pub invents-the-count : Breaks inventing restOne freshTables
 unfolding written inventing
 invents-the-count = tells (λ d. eqb (d .answer .unsettled) 1) refl refl
 
--- Easy errors in this trade
+-- Document 01, "Easy errors in this trade"
 
--- calling a cut second size group Truncated
+-- a second size group that is cut passes for Truncated
 unfoldable pub truncating : Decoder
 truncating s l =
     let d = decode s l in
@@ -161,7 +161,7 @@ pub calls-a-cut-group-truncated : Breaks truncating (bytes (dynamicOnly 1 0 ++ 1
 unfolding written truncating
 calls-a-cut-group-truncated = tells (numberIs 1) refl refl
 
--- taking sign 1 as negative Z
+-- the sign of Z is turned
 unfoldable pub mirrored : Row → Row
 mirrored r =
     let p = r .picture in
@@ -178,7 +178,7 @@ pub takes-sign-1-as-negative : Breaks (changing mirrored) movedOne freshTables
 unfolding written changing mirrored
 takes-sign-1-as-negative = tells (blockIs 6 (negℤ (pos 5))) refl refl
 
--- clearing a picture when inactive
+-- rest loses the picture
 unfoldable pub cleared : Row → Row
 cleared r =
     record { kind = r .kind; active = r .active; gain = r .gain; priority = r .priority; picture = cond (is 0 (r .active)) defaultPicture (r .picture); mark = r .mark }
@@ -187,7 +187,7 @@ pub clears-the-picture : Breaks (changing cleared) restOne (after movedOne)
 unfolding written changing cleared
 clears-the-picture = tells (blockIs 4 (pos 31)) refl refl
 
--- undoing retention after a timing refusal
+-- a frame whose timings are refused is not retained
 unfoldable pub undoing : Decoder
 undoing s l =
     let d = decode s l in

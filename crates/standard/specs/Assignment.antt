@@ -31,7 +31,7 @@ objectCount = do
   require (leb (v + 1) objectLimit) (limit context.object-count at)
   pure (v + 1)
 
--- Dynamic-only: an optional Lfe first, the rest Dynamic
+-- dynamic-only: all are Dynamic, but the first may be an Lfe
 unfoldable pub onlyDynamic : ℕ → Parser (List Kind)
 onlyDynamic count =
     mapP (λ low. cond low (lfe ∷ replicate (count - 1) dynamic) (replicate count dynamic)) (flag context.LFE-present-flag)
@@ -86,7 +86,7 @@ isfs = do
   require (leb format 5) (invalid context.intermediate-spatial-format-index at)
   pure (replicate (getD isfCounts format 0) isf)
 
--- coded as the object count, and up to 159
+-- in two parts as the object count, with 159 as the most
 unfoldable pub dynamics : Parser (List Kind)
 dynamics = mapP (λ v. replicate (v + 1) dynamic) (extended 5 context.dynamic-object-count 31 7 context.extended-dynamic-object-count)
 

@@ -1,4 +1,4 @@
--- Each public call on lists: the numbers given back, and every lent number afterwards.
+-- Document 01, "Numbers given back": what each public call answers, and what it leaves in the lent lists.
 use Prim.Native.Nat.{ℕ, _+_, _*_}
 use mathlib.Core.Bool.{Bool, cond, _&&_}
 use mathlib.Core.List.{List, [], _++_}
@@ -42,7 +42,7 @@ pub record Done : Type 0 where
   pub answer : Answer
   pub lent : Lent
 
--- on any refusal every further number is 0
+-- a refusal has no objects, blocks or unsettled rows
 abbrev pub refusal : Refusal → Answer
 refusal r = record { verdict = r; objects = 0; blocks = 0; unsettled = 0 }
 
@@ -55,7 +55,7 @@ hasRoom l =
     leb retainedLength (length (l .retained)) && leb startLength (length (l .start))
     && leb blocksLength (length (l .blocks)) && leb timingsLength (length (l .timings))
 
--- used rows and timings written; retained's numbers rewritten; the rest unchanged
+-- the rows and timings of the frame are written, and all retained numbers; what lies behind stays
 unfoldable pub accept : Lent → State → Tree → Done
 accept l st t =
     let n = length (t .objects) in
@@ -70,7 +70,7 @@ accept l st t =
       };
     }
 
--- retained unchanged; the needed length of the frame tables set to 0; the rest unchanged
+-- the frame tables become 0 as far as they are needed; the retained table stays
 unfoldable pub decline : Lent → Refusal → Done
 decline l r =
     record {
@@ -87,7 +87,7 @@ unfoldable pub settle : Lent → Parsed Tree → Done
 settle l (got t p) = accept l (stateOf (l .retained)) t
 settle l (refused r) = decline l r
 
--- tests 5, 6, 7, then the payload
+-- room, form and size (5, 6, 7) come before the payload
 unfoldable pub decode : List ℕ → Lent → Done
 decode s l =
     cond (hasRoom l)
@@ -107,7 +107,7 @@ reset l =
     cond (leb retainedLength (length l)) (record { number = number.accepted; retained = over (replicate retainedLength (pos 0)) l })
     (record { number = number.room; retained = l })
 
--- sets doubt to 1 and nothing else
+-- the doubt alone changes
 unfoldable pub gap : List ℤ → Kept
 gap l =
     cond (leb retainedLength (length l))

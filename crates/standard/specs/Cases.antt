@@ -74,7 +74,7 @@ allHold (c ∷ cs) = holds c && allHold cs
 
 -- Rows
 
--- kind, active, gain, priority; x, y, z; mark: sizes 0, no screen, no lock, zone 0, elevation 1
+-- kind, active, gain, priority; x, y, z; mark. The rest is the default: elevation 1, all else 0
 abbrev pub plainRow : ℤ → ℤ → ℤ → ℤ → ℤ → ℤ → ℤ → ℤ → List ℤ
 plainRow k a g n x y z m = k ∷ a ∷ g ∷ n ∷ x ∷ y ∷ z ∷ pos 0 ∷ pos 0 ∷ pos 0 ∷ pos 0 ∷ pos 0 ∷ pos 0 ∷ pos 1 ∷ m ∷ []
 

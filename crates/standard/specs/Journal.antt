@@ -1,4 +1,4 @@
--- Document 01, "Journal", in three layers: bytes to records and an ending, records to replies, replies to lines.
+-- Document 01, "Journal", in three layers: the bytes are cut into records, each record has a reply, each reply is a line.
 use Prim.Native.Nat.{ℕ, zero, suc, _+_, _*_, _/_, _%_}
 use mathlib.Core.Bool.{true, false, cond, _&&_}
 use mathlib.Core.List.{List, [], _∷_, _++_}
@@ -20,7 +20,7 @@ pub data Step : Type 0 where
   more : Step  -- a record that has not arrived whole
   unknown : Step  -- a mark that no record has
 
--- after the mark: a 16-bit big-endian length and a payload
+-- behind the mark: a length in two bytes, the higher first, and so many bytes
 unfoldable pub payloadStep : List ℕ → Step
 payloadStep [] = more
 payloadStep (high ∷ []) = more
@@ -28,7 +28,7 @@ payloadStep (high ∷ low ∷ s) =
     let n = high * 256 + low in
     cond (leb n (length s)) (whole (payload (take n s)) (n + 4)) more
 
--- 50 4C payload; 47 50 gap; 52 53 reset
+-- 50 4C is a payload, 47 50 a gap, 52 53 a reset
 unfoldable pub step : List ℕ → Step
 step [] = more
 step (a ∷ []) = more
@@ -57,7 +57,7 @@ ended e = record { entries = []; ending = e }
 abbrev pub entered : Entry → Journal → Journal
 entered x j = record { entries = x ∷ j .entries; ending = j .ending }
 
--- no whole record is left: an incomplete one, a lone byte too, is torn
+-- no whole record is left: any bytes that are, even one, are torn
 unfoldable pub rest : ℕ → List ℕ → Ending
 rest at [] = complete
 rest at (a ∷ s) = torn at
@@ -121,7 +121,7 @@ unfoldable pub spaced : List ℕ → List ℕ
 spaced [] = []
 spaced (v ∷ vs) = 32 ∷ decimal v ++ spaced vs
 
--- `ok` objects blocks unsettled, or `no` number context place
+-- `ok` with objects, blocks, unsettled; or `no` with number, context, place
 unfoldable pub answerText : Answer → List ℕ
 answerText a =
     let v = a .verdict in

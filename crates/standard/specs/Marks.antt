@@ -13,7 +13,7 @@ settled = pos 1
 abbrev pub unsettled : ℤ
 unsettled = pos 0
 
--- whether a group is settled under a mark: the mark covers the picture as one thing
+-- whether a group is settled under a mark: one mark is for the whole picture
 unfoldable pub marked : Group → ℤ → Bool
 marked g m = is 1 m
 
@@ -44,7 +44,7 @@ settles itsSize (given w) = isSome (w .size)
 settles itsScreen (given w) = isSome (w .screen)
 settles itsLock (given w) = true
 
--- render status 0, or all four groups with an absolute position
+-- render status 0, or every group said and the position in full
 unfoldable pub settlesAll : Render → Bool
 settlesAll r = settles itsPosition r && settles itsZone r && settles itsSize r && settles itsScreen r && settles itsLock r
 

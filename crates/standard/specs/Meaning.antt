@@ -1,4 +1,4 @@
--- What a payload does to the rows: document 01, from "Then object by object". It cannot refuse.
+-- What a payload does to the rows: document 01, "Reading order" of objects and blocks, and "Marks and doubt". It cannot refuse.
 use Prim.Native.Nat.{ℕ, _+_}
 use mathlib.Core.Bool.{Bool, true, false, cond, _&&_}
 use mathlib.Core.List.{List, [], _∷_, map}
@@ -15,7 +15,7 @@ use Rattle.standard.specs.Syntax.{syntax}
 use Rattle.standard.specs.Rows.{Picture, Row, State, defaultPicture, noRow, is, isSilent}
 use Rattle.standard.specs.Marks.{settled, doubted, rowMark}
 
--- Start rows: the retained rows if the kinds equal the retained kinds, else default
+-- Start rows: the retained ones where the kinds are the same, and default ones where they are not
 
 unfoldable pub heldRow : ℤ → Row → Row
 heldRow d r =
@@ -42,11 +42,11 @@ module _ {A : Type 0} where
   orBefore none a = a
   orBefore (some w) a = w .word
 
--- the preceding object's gain in this block, 0 dB if that is silent
+-- gain code 3: as the object before in the same block, but 0 dB for silence
 unfoldable pub copiedGain : ℤ → ℤ
 copiedGain g = cond (isSilent g) (pos 0) g
 
--- g: the preceding object's gain in this block
+-- g: the gain of the object before, in the same block
 unfoldable pub gainSaid : ℤ → GainWord → ℤ
 gainSaid g (level v) = v
 gainSaid g copied = copiedGain g
@@ -58,7 +58,7 @@ newGain g (some w) old = gainSaid g (w .word)
 unfoldable pub clamp : ℤ → ℤ → ℤ → ℤ
 clamp lo hi v = cond (ltZ v lo) lo (cond (ltZ hi v) hi v)
 
--- steps stop at the ends of the range
+-- a step beyond an end stays there
 unfoldable pub stepped : Position → Position → Position
 stepped d p =
     record { x = clamp (pos 0) (pos 62) (p .x +ℤ d .x); y = clamp (pos 0) (pos 62) (p .y +ℤ d .y); z = clamp (negsuc 14) (pos 15) (p .z +ℤ d .z) }

@@ -1,4 +1,4 @@
--- Document 01, "Ramps": the choice of rows and fraction at a sample, for any timings.
+-- Document 01, "Ramps": between which rows a sample lies, and how far; whatever the timings are.
 use Prim.Native.Nat.{ℕ, suc, _-_}
 use mathlib.Core.Bool.{cond, _||_}
 use mathlib.Core.List.{List, [], _∷_}
@@ -15,7 +15,7 @@ pub record Choice : Type 0 where
   pub elapsed : ℕ
   pub duration : ℕ
 
--- a row that stands still: 1/1
+-- nothing moves: 1/1
 unfoldable pub still : ℕ → Choice
 still n = record { from = n; to = n; elapsed = 1; duration = 1 }
 

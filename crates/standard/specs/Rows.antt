@@ -25,7 +25,7 @@ pub record State : Type 0 where
   pub doubt : ℤ
   pub rows : List Row
 
--- all zeros is a fresh decoder
+-- a fresh decoder: nothing is kept yet
 unfoldable pub fresh : State
 fresh = record { doubt = pos 0; rows = [] }
 

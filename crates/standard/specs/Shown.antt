@@ -5,7 +5,7 @@ use lib.Ieee.{Float, binary32, ofInt}
 use Rattle.standard.specs.Floats.{nought, one, minusOne, ratio}
 use Rattle.standard.specs.Rows.{Row, is, isSilent}
 
--- silence or a decibel figure
+-- silence, or decibels
 pub data Gain : Type 0 where
   silent : Gain
   decibels : Float → Gain
@@ -23,7 +23,7 @@ pub record Shown : Type 0 where
 unfoldable pub shownGain : ℤ → Gain
 shownGain g = cond (isSilent g) silent (decibels (ofInt binary32 g))
 
--- an Lfe always shows (-1, 1, -1)
+-- an Lfe is at (-1, 1, -1), whatever its row says
 unfoldable pub shown : Row → Shown
 shown r =
     let p = r .picture in

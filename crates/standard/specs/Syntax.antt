@@ -30,7 +30,7 @@ sampleOffset = do
 unfoldable pub rampDurations : List ℕ
 rampDurations = 32 ∷ 64 ∷ 128 ∷ 256 ∷ 320 ∷ 480 ∷ 1000 ∷ 1001 ∷ 1024 ∷ 1600 ∷ 1601 ∷ 1602 ∷ 1920 ∷ 2000 ∷ 2002 ∷ 2048 ∷ []
 
--- code 0, 512, 1536, or a flag choosing 4 bits into the durations, else 11 bits
+-- 0, 512 and 1536 by code; by code 3 a flag, then one of the durations in 4 bits, or any in 11
 unfoldable pub ramp : Parser ℕ
 ramp = do
   code ← read 2 context.ramp-duration-code
@@ -109,7 +109,7 @@ unfoldable pub once : ℕ → Option Tree → Parser Tree → Parser (Option Tre
 once at none m = mapP some m
 once at (some t) m = refuse (invalid context.duplicate-object-element at)
 
--- Id 1 objects, 2 trim, others free
+-- id 1 holds objects, id 2 a trim; what others hold is free
 unfoldable pub content : List Kind → ℕ → ℕ → Option Tree → Parser (Option Tree)
 content kinds at id found =
     cond (eqb id 1)

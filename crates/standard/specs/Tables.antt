@@ -63,7 +63,7 @@ unfoldable pub timingsOf : ℕ → List ℕ → List Timing
 timingsOf zero l = []
 timingsOf (suc n) l = record { start = getD l 0 0; ramp = getD l 1 0 } ∷ timingsOf n (drop 2 l)
 
--- Retained: object count, doubt, rows; those past the count are ignored, and written zero
+-- Retained: object count, doubt, rows; behind the count nothing is read, and zeros are written
 
 unfoldable pub countOf : List ℤ → ℕ
 countOf l = natAbs (getD l 0 (pos 0))
@@ -121,7 +121,7 @@ isDefault p =
     ∷ is 0 (p .size .width) ∷ is 0 (p .size .depth) ∷ is 0 (p .size .height)
     ∷ is 0 (p .screen) ∷ is 0 (p .lock) ∷ is 0 (p .zone .zone) ∷ is 1 (p .zone .elevation) ∷ [])
 
--- an inactive row has gain -128, priority 0
+-- a row at rest is silent, and has no priority
 unfoldable pub activeForm : Row → Bool
 activeForm r = is 1 (r .active) || (isSilent (r .gain) && is 0 (r .priority))
 

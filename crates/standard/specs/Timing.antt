@@ -22,6 +22,6 @@ apart n (t ∷ ts) =
     (cond (ltb frameLength (t .start) || ltb frameLength (endOf t)) crossFrame
     (apart (endOf t) ts))
 
--- starts that fall anywhere give 8
+-- 8 comes first: one start that falls is enough
 unfoldable pub timingTest : List Timing → ℕ
 timingTest ts = cond (rising 0 ts) (apart 0 ts) ordering

@@ -45,7 +45,7 @@ pub record Size : Type 0 where
 
 pub data GainWord : Type 0 where
   level : ℤ → GainWord  -- in dB, or silence
-  copied : GainWord  -- the preceding object's gain in this block
+  copied : GainWord  -- from the object before, in the same block
 
 pub data PositionWord : Type 0 where
   absolute : Position → PositionWord

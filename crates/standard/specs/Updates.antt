@@ -1,4 +1,4 @@
--- Document 01, "Reading order", from "Then object by object": what is said of one object in one block.
+-- Document 01, "Reading order", of objects and blocks: what is said of one object in one block.
 use Prim.Native.Nat.{ℕ, min}
 use mathlib.Core.Bool.{Bool, true, false, cond}
 use mathlib.Core.List.{_∷_}
@@ -18,7 +18,7 @@ use Rattle.standard.specs.Contexts as context
 unfoldable pub silence : ℤ
 silence = negsuc 127
 
--- 15 - w up to 14, then 14 - w
+-- 15 down to 1 for 0 to 14, and on from -1: no word says 0
 unfoldable pub decibels : ℕ → ℤ
 decibels w = cond (leb w 14) (subℕ 15 w) (subℕ 14 w)
 
@@ -36,7 +36,7 @@ priorityWord = do
   usual ← flag context.default-object-priority-flag
   cond usual (pure (pos 32)) (mapP pos (read 5 context.object-priority))
 
--- Status 0: silence and priority 0. 1: both. 2: kept. 3: two flags, gain first. The status was read at `at`.
+-- Status 0 sets silence and priority 0, 1 says both, 2 keeps both, 3 says those of its two flags, the gain's first. It was read at `at`.
 unfoldable pub basic : ℕ → ℕ → Parser Basic
 basic at status =
     cond (eqb status 0) (pure (record { gain = some (placedAt at (level silence)); priority = some (placedAt at (pos 0)) }))
@@ -56,7 +56,7 @@ differential = do
   z ← readSigned 3 context.differential-Z
   pure (moved (record { x = x; y = y; z = z }))
 
--- 63 becoming 62; sign 1 is positive
+-- 63 is taken for 62; sign 1 is positive
 unfoldable pub absolutely : Parser PositionWord
 absolutely = do
   x ← read 6 context.position-X
@@ -65,7 +65,7 @@ absolutely = do
   z ← read 4 context.position-Z
   pure (absolute (record { x = pos (min x 62); y = pos (min y 62); z = cond positive (pos z) (negℤ (pos z)) }))
 
--- all dropped
+-- read and dropped
 unfoldable pub distance : Parser (Unit {0})
 distance = do
   specified ← flag context.object-distance-specified-flag
@@ -75,7 +75,7 @@ distance = do
         cond infinite (pure tt) (mapP (λ v. tt) (read 4 context.distance-factor-index)))
       (pure tt)
 
--- past block 0 a differential flag
+-- the first block has no differential flag
 unfoldable pub positionWord : Bool → Parser PositionWord
 positionWord first = do
   d ← cond first (pure false) (flag context.differential-position-flag)
@@ -98,7 +98,7 @@ zoneWord = do
 unfoldable pub sized : ℕ → ℕ → ℕ → Size
 sized w d h = record { width = pos w; depth = pos d; height = pos h }
 
--- 0 none, 1 one for all, 2 three; in 31sts
+-- by code: no size, one for width, depth and height, or three; in 31sts
 unfoldable pub sizeWord : Parser Size
 sizeWord = do
   at ← here
@@ -113,7 +113,7 @@ sizeWord = do
         pure (sized w d h))
       (refuse (invalid context.object-size-index at))))
 
--- 3 + 2 dropped bits if set
+-- a set flag has 3 and 2 bits behind it, read and dropped
 unfoldable pub screenWord : Parser ℤ
 screenWord = do
   on ← flag context.screen-reference-flag
@@ -124,7 +124,7 @@ screenWord = do
         pure (bit on))
       (pure (bit on))
 
--- the groups that the flags choose, then lock always
+-- the groups that the flags choose, and in any case the lock
 unfoldable pub groups : Bool → ℕ → Parser Groups
 groups first flags = do
   p ← optional (isSet 3 flags) (placed (positionWord first))
@@ -134,7 +134,7 @@ groups first flags = do
   l ← placed (mapP bit (flag context.object-snap-flag))
   pure (record { position = p; zone = z; size = n; screen = s; lock = l })
 
--- Status 0: default picture. 2: kept. 1, or 3 with four flags: groups. The status was read at `at`.
+-- Status 0 takes the default picture, 2 keeps the picture, 1 says every group, 3 those of its four flags. It was read at `at`.
 unfoldable pub render : Bool → ℕ → ℕ → Parser Render
 render first at status =
     cond (eqb status 0) (pure (default at))

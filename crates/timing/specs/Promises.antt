@@ -10,7 +10,7 @@ use Rattle.timing.specs.declared.ramps.Ramp.{Ramp}
 use Rattle.timing.specs.declared.ramps.Ramp.the-variants.{Chosen, Refused}
 use Rattle.timing.specs.Say.{choiceSaid, rampSaid, isChosen}
 
--- one division, and below 1 exactly when elapsed < duration
+-- one division, under 1 while elapsed is under the duration, and only then
 pub record Rounded (c : ramps.Choice) (f : Float) : Type 0 where
   pub quotient : f ≡ ramps.fraction c
   pub below : lt f one ≡ ltb (c .elapsed) (c .duration)

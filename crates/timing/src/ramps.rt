@@ -1,4 +1,4 @@
-// The choice of rows and fraction at a sample.
+// Between which rows a sample lies, and how far.
 ghost use mathlib.Core.Path.{_≡_};
 ghost use Prim.Native.Nat.{_*_, _≤_, _<_};
 ghost use lib.ListN.{length};

@@ -66,7 +66,7 @@ module _ {A : Type 0} where
 unfoldable pub partsRead : ℕ → ℕ → ℕ → ℕ → Parser ℕ
 partsRead status all width c = cond (eqb status 1) (pure all) (read width c)
 
--- Basic information; g: the preceding object's gain in this block
+-- Basic information; g: the gain of the object before, in the same block
 
 unfoldable pub gainPass : ℤ → ℕ → Row → Parser Row
 gainPass g flags r = ifSaid (isSet 1 flags) gainWord (λ w. withGain (gainSaid g w) r) r

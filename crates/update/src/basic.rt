@@ -23,7 +23,7 @@ use bits::Flag;
 use bits::Number;
 use rows::row::Row;
 
-// The preceding object's gain in this block: no gain of the row's own.
+// The gain of the object before, in the same block: no gain of the row's own.
 pub struct PreviousGain(pub i16);
 
 pub fn parse_basic_info(
@@ -99,7 +99,7 @@ fn gain_db(word: u32) -> i16
     if word <= 14 { 15 - number } else { 14 - number }
 }
 
-// 0 dB if that is silent.
+// Silence is copied as 0 dB.
 fn copied_gain(previous: PreviousGain) -> i16
     ensures { λ r. ⌜ r ≡ copiedGain (previous .0) ⌝ }
 {

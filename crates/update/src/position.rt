@@ -96,7 +96,7 @@ fn stepped(old: Position, steps: Position) -> Position
     }
 }
 
-// Stops at the ends of the range. The sum is taken at 32 bits, so that nothing is asked of either number.
+// A step beyond an end stays there. The sum is taken at 32 bits, so that nothing is asked of either number.
 fn step(coordinate: i16, by: i16, low: i16, high: i16) -> i16
     ensures { λ r. ⌜ r ≡ meaning.clamp low high (coordinate +ℤ by) ⌝ }
 {

@@ -1,0 +1,3 @@
+-- Laws that stand on several functions.
+pub mod Texts
+pub mod Decimal

@@ -1,0 +1,2 @@
+// The journal as a library: records to replies, and replies to lines of text.
+pub mod lines;

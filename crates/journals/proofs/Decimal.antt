@@ -1,15 +1,15 @@
--- A number's text: all digits but the last, and the last; how long it is.
+-- A number's text: all digits but the last, and the last; how long it is; numbers behind spaces.
 use Prim.Native.Nat.{ℕ, zero, suc, _+_, _*_, _/_, _%_, _^_, _≤_, _<_}
-use mathlib.Core.Path.{_≡_, refl, ap, _∙_}
+use mathlib.Core.Path.{_≡_, refl, sym, ap, _∙_}
 use mathlib.Core.Bool.{Bool, true, false}
 use mathlib.Core.Logic.{_⊎_, inl, inr, ⊎-elim}
-use mathlib.Core.List.{List, [], _∷_, _++_}
+use mathlib.Core.List.{List, [], _∷_, _++_, append-assoc, append-nil}
 use native.Mathlib.Nat.{div-lt-self, div-lt-iff-lt-mul, pow-suc}
 use native.Mathlib.Omega.{arith}
 use borrow.Author.Tests.{lt-ltb, le-ltb, ltb-true, ltb-false}
 use lib.Dec.{ltb}
 use lib.ListN.{length, length-append}
-use Rattle.standard.specs.Journal.{digitsOf, decimal}
+use Rattle.standard.specs.Journal.{digitsOf, decimal, spaced}
 
 one-or-more : (v : ℕ) → (v < 10) ⊎ (10 ≤ v)
 one-or-more v = go (ltb v 10) refl
@@ -83,3 +83,16 @@ digits-bound (suc k) v h =
 -- and 20 for a number of 64 bits
 pub twenty : (v : ℕ) → v < 2 ^ 64 → length (decimal v) ≤ 20
 twenty v h = digits-bound 19 v (omega arith)
+
+pub spaced-one : (v : ℕ) → spaced (v ∷ []) ≡ 32 ∷ decimal v
+unfolding spaced
+spaced-one v = simp append-nil
+
+spaced-more : (v : ℕ) (vs : List ℕ) → spaced (v ∷ vs) ≡ spaced (v ∷ []) ++ spaced vs
+unfolding spaced
+spaced-more v vs = ap (λ (l : List ℕ). l ++ spaced vs) (sym (spaced-one v))
+
+pub spaced-three : (a b c : ℕ) → spaced (a ∷ b ∷ c ∷ []) ≡ spaced (a ∷ []) ++ spaced (b ∷ []) ++ spaced (c ∷ [])
+spaced-three a b c =
+    spaced-more a (b ∷ c ∷ []) ∙ ap (λ (l : List ℕ). spaced (a ∷ []) ++ l) (spaced-more b (c ∷ []))
+    ∙ sym (append-assoc (spaced (a ∷ [])) (spaced (b ∷ [])) (spaced (c ∷ [])))

@@ -1,3 +1,4 @@
 -- Laws that stand on several functions.
-pub mod Texts
+pub mod Putting
 pub mod Decimal
+pub mod LineLaws

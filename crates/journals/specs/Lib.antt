@@ -1,2 +1,3 @@
 -- What the contracts of this crate cite beside the paper.
+pub mod Say
 pub mod Texts

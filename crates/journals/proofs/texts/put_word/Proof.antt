@@ -7,8 +7,8 @@ use lib.ListN.{length, take}
 use lib.Seq.{take-all}
 use Rattle.rows.specs.Places.{written}
 use Rattle.rows.proofs.Storing.{Storing, begin, copy-turn, copied}
-use Rattle.journals.proofs.lines.put_word.Statement.{statement}
-use Rattle.journals.proofs.lines.put_word.Tie as tie
+use Rattle.journals.proofs.texts.put_word.Statement.{statement}
+use Rattle.journals.proofs.texts.put_word.Tie as tie
 
 abbrev Inv-loop : tie.InvT-loop
 Inv-loop out₀ at word i₀ i-end out i = Storing out₀ at (take i word) (length word) i out
@@ -30,7 +30,7 @@ same-length c = c .before .loop .inv .long
 returns : tie.Need-returns Inv-loop μ-loop
 returns c =
     let word = c .before .before .args .word .now in
-    record { left = copied word (c .loop-test .left) (c .before .loop .inv) ∙ ap (written _ _) (take-all (length word) word (omega arith)); place = refl }
+    record { left = copied word (c .loop-test .left) (c .before .loop .inv) ∙ ap (written _ _) (take-all (length word) word (omega arith)); place = refl; short = omega arith }
 
 pub put-word-spec : {M : Type 1} → statement M
 put-word-spec =

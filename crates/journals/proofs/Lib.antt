@@ -1,4 +1,4 @@
 -- Laws that stand on several functions.
 pub mod Putting
 pub mod Decimal
-pub mod LineLaws
+pub mod AnswerTexts

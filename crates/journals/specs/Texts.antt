@@ -1,14 +1,10 @@
--- Text that is put into a buffer, and what a line promises.
+-- Text that is put into a buffer, and the last line.
 use Prim.Native.Nat.{ℕ, _+_, _≤_}
 use mathlib.Core.Path.{_≡_}
-use mathlib.Core.Bool.{Bool, cond}
 use mathlib.Core.List.{List, [], _∷_, _++_}
-use lib.Dec.{leb}
 use lib.ListN.{length}
 use Rattle.standard.specs.Journal as journal
 use Rattle.rows.specs.Places.{written}
-use Rattle.journals.specs.declared.lines.Put.{Put}
-use Rattle.journals.specs.declared.lines.Put.the-variants as put
 use Rattle.journals.specs.declared.lines.Ending.{Ending}
 use Rattle.journals.specs.declared.lines.Ending.the-variants as ending
 
@@ -21,14 +17,6 @@ pub record Puts (n : ℕ) (l : List ℕ) (at : ℕ) (text : List ℕ) (next : �
 -- no line is longer
 abbrev pub lineLength : ℕ
 lineLength = 108
-
-abbrev pub hasRoom : List ℕ → ℕ → Bool
-hasRoom l at = leb (at + lineLength) (length l)
-
--- a line is put where any would have room; else the buffer is left as it was
-pub record PutsLine (l : List ℕ) (at : ℕ) (text : List ℕ) (r : Put) (m : List ℕ) : Type 0 where
-  pub answer : r ≡ cond (hasRoom l at) (put.Next (at + length text)) put.Room
-  pub left : m ≡ cond (hasRoom l at) (written l at text) l
 
 -- `fault` offset: the input could not be read on
 abbrev pub faultLine : ℕ → List ℕ

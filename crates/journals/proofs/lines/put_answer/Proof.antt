@@ -2,7 +2,7 @@
 use borrow.Author.Needs.{needs}
 use Rattle.journals.specs.Say.{saidAnswer}
 use Rattle.journals.proofs.Putting.{puts-more}
-use Rattle.journals.proofs.LineLaws.{accepted-text, refused-text}
+use Rattle.journals.proofs.AnswerTexts.{accepted-text, refused-text}
 use Rattle.journals.proofs.lines.put_answer.Statement.{statement}
 use Rattle.journals.proofs.lines.put_answer.Tie as tie
 

@@ -1,3 +1,4 @@
 -- What the contracts of this crate cite beside the paper.
 pub mod Say
+pub mod Promises
 pub mod Texts

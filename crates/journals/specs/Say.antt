@@ -1,9 +1,29 @@
 -- What each answer of the code says, in the words of the definitions.
+use Prim.Native.Nat.{ℕ, _-_}
+use mathlib.Core.List.{List}
+use lib.ListN.{take, drop}
 use Rattle.standard.specs.Calls as calls
-use Rattle.standard.specs.Journal.{Reply, answered, noted, cleared}
+use Rattle.standard.specs.Journal as paper
+use Rattle.standard.specs.Journal.{Record, payload, gapNotice, resetNotice, Step, whole, more, unknown}
+use Rattle.journals.specs.declared.records.Kind.{Kind}
+use Rattle.journals.specs.declared.records.Kind.the-variants as kind
+use Rattle.journals.specs.declared.records.Found.{Found}
+use Rattle.journals.specs.declared.records.Found.the-variants as found
 use Rattle.journals.specs.declared.replies.Answer.{Answer}
-use Rattle.journals.specs.declared.replies.Reply as code
+use Rattle.journals.specs.declared.replies.Reply.{Reply}
 use Rattle.journals.specs.declared.replies.Reply.the-variants as reply
+
+-- a record of this kind and body
+abbrev pub saidRecord : Kind → List ℕ → Record
+saidRecord kind.Payload body = payload body
+saidRecord kind.Gap body = gapNotice
+saidRecord kind.Reset body = resetNotice
+
+-- found in the bytes that have arrived
+abbrev pub saidFound : List ℕ → Found → Step
+saidFound s (found.Whole k body end) = whole (saidRecord k (take (end - body) (drop body s))) end
+saidFound s found.More = more
+saidFound s found.Unknown = unknown
 
 abbrev pub saidAnswer : Answer → calls.Answer
 saidAnswer a =
@@ -14,7 +34,7 @@ saidAnswer a =
       unsettled = a .unsettled;
     }
 
-abbrev pub saidReply : code.Reply → Reply
-saidReply (reply.Answered a) = answered (saidAnswer a)
-saidReply reply.Noted = noted
-saidReply reply.Cleared = cleared
+abbrev pub saidReply : Reply → paper.Reply
+saidReply (reply.Answered a) = paper.answered (saidAnswer a)
+saidReply reply.Noted = paper.noted
+saidReply reply.Cleared = paper.cleared

@@ -1,4 +1,5 @@
-// The journal as a library: records to replies, and replies to lines of text.
+// The journal as a library: bytes to records, records to replies, replies to lines.
 pub mod lines;
+pub mod records;
 pub mod replies;
 mod texts;

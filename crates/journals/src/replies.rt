@@ -1,4 +1,18 @@
-// Records to replies.
+// Records to replies: a payload is decoded into the lent tables, and a gap or a reset changes the retained one.
+ghost use mathlib.Core.Path.{_≡_};
+ghost use Rattle.standard.specs.Calls as calls;
+ghost use Rattle.standard.specs.Journal as paper;
+ghost use Rattle.oamd.specs.Promises.{lent};
+ghost use Rattle.journals.specs.Say.{saidRecord, saidAnswer};
+ghost use Rattle.journals.specs.Promises.{Answers, Left};
+use crate::records::Kind;
+use oamd::decoder::Decoded;
+use oamd::decoder::decode;
+use rows::calls::gap;
+use rows::calls::reset;
+use rows::numbers::ACCEPTED;
+
+// The numbers of a decoding, wide enough for any of them.
 pub struct Answer {
     pub number: u64,
     pub context: u64,
@@ -12,4 +26,69 @@ pub enum Reply {
     Answered(Answer),
     Noted,
     Cleared,
+}
+
+// The body is the payload; that of a gap or a reset is not read. Their numbers are not told.
+pub fn reply_to(
+    kind: Kind,
+    body: &[u8],
+    retained: &mut [i16],
+    start: &mut [i16],
+    blocks: &mut [i16],
+    timings: &mut [u16],
+) -> Reply
+    ensures { λ r. ⌜ Left (paper.replyTo (lent (now (retained .entry)) (now (start .entry)) (now (blocks .entry)) (now (timings .entry))) (saidRecord kind (now (body .entry)))) r (now (retained .exit)) (now (start .exit)) (now (blocks .exit)) (now (timings .exit)) ⌝ }
+{
+    match kind {
+        Kind::Payload => Reply::Answered(answer_to(body, retained, start, blocks, timings)),
+        Kind::Gap => {
+            gap(retained);
+            Reply::Noted
+        }
+        Kind::Reset => {
+            reset(retained);
+            Reply::Cleared
+        }
+    }
+}
+
+// What was not accepted has no counts, and what was not read no place.
+fn answer_to(
+    payload: &[u8],
+    retained: &mut [i16],
+    start: &mut [i16],
+    blocks: &mut [i16],
+    timings: &mut [u16],
+) -> Answer
+    ensures { λ r. ⌜ Answers (calls.decode (now (payload .entry)) (lent (now (retained .entry)) (now (start .entry)) (now (blocks .entry)) (now (timings .entry)))) r (now (retained .exit)) (now (start .exit)) (now (blocks .exit)) (now (timings .exit)) ⌝ }
+{
+    match decode(payload, retained, start, blocks, timings) {
+        Decoded::Accepted(frame) => Answer {
+            number: ACCEPTED as u64,
+            context: 0,
+            place: 0,
+            objects: frame.objects as u64,
+            blocks: frame.blocks as u64,
+            unsettled: frame.unsettled as u64,
+        },
+        Decoded::Refused(refusal) => refused(
+            refusal.number as u64,
+            refusal.context as u64,
+            refusal.place.0 as u64,
+        ),
+        Decoded::Unread(number) => refused(number as u64, 0, 0),
+    }
+}
+
+fn refused(number: u64, context: u64, place: u64) -> Answer
+    ensures { λ r. ⌜ saidAnswer r ≡ calls.refusal (record { number = number; context = context; place = place }) ⌝ }
+{
+    Answer {
+        number,
+        context,
+        place,
+        objects: 0,
+        blocks: 0,
+        unsettled: 0,
+    }
 }

@@ -60,7 +60,7 @@ gap-and-reset = refl
 -- Turns
 
 -- a whole record has 2 bytes at least
-abbrev Sized : Step → Type 0
+abbrev pub Sized : Step → Type 0
 Sized (whole r k) = 2 ≤ k
 Sized more = Unit {0}
 Sized unknown = Unit {0}
@@ -75,7 +75,7 @@ payload-sized (high ∷ low ∷ s) = go (leb (high * 256 + low) (length s))
     go true = omega arith
     go false = tt
 
-step-sized : (s : List ℕ) → Sized (step s)
+pub step-sized : (s : List ℕ) → Sized (step s)
 unfolding step
 step-sized [] = tt
 step-sized (a ∷ []) = tt

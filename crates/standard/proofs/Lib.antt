@@ -26,6 +26,7 @@ pub mod RampChoice
 pub mod RampTable
 pub mod ShownValues
 pub mod JournalCases
+pub mod JournalParts
 pub mod LastBlock
 pub mod Writer
 pub mod FurtherCases

@@ -15,5 +15,6 @@ pub mod Shown
 pub mod Calls
 pub mod Events
 pub mod Journal
+pub mod JournalParts
 pub mod Computed
 pub mod Cases

@@ -3,3 +3,4 @@ pub mod lines;
 pub mod records;
 pub mod replies;
 mod texts;
+pub mod turns;

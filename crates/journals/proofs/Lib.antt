@@ -5,4 +5,5 @@ pub mod Putting
 pub mod Decimal
 pub mod AnswerTexts
 pub mod Turning
+pub mod Keeping
 pub mod Determined

@@ -1,4 +1,5 @@
 // The journal as a library: bytes to records, records to replies, replies to lines.
+pub mod buffers;
 pub mod lines;
 pub mod records;
 pub mod replies;

@@ -4,6 +4,5 @@ pub mod Replying
 pub mod Putting
 pub mod Decimal
 pub mod AnswerTexts
-pub mod Turning
 pub mod Keeping
 pub mod Determined

@@ -2,5 +2,4 @@
 pub mod Say
 pub mod Promises
 pub mod Texts
-pub mod Turns
 pub mod Buffers

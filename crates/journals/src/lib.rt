@@ -4,4 +4,3 @@ pub mod lines;
 pub mod records;
 pub mod replies;
 mod texts;
-pub mod turns;

@@ -1,7 +1,8 @@
--- Determinacy, of each layer's own `ensures`: two ends that meet it for one entry show the same answer and the same lists.
+-- Determinacy, of each public call's own `ensures`: two ends that meet it for one entry show the same answer and the same lists.
 use Prim.Native.Nat.{ℕ}
 use mathlib.Core.Path.{_≡_, refl, sym, _∙_, ap}
 use mathlib.Core.List.{List}
+use lib.IntN.{ℤ}
 use lib.ListN.{length}
 use denote.Ref.{now}
 use Rattle.standard.specs.Calls.{Lent}
@@ -10,13 +11,18 @@ use Rattle.rows.proofs.Determined.{Determines}
 use Rattle.oamd.specs.Promises.{lent}
 use Rattle.journals.specs.Say.{saidFound, saidReply}
 use Rattle.journals.specs.Promises.{Placed, Left}
+use Rattle.journals.specs.Turns.{Happened, replied, waits, stops, Turned, saidTurn, TurnLeft}
 use Rattle.journals.specs.declared.records.Kind.the-variants.{Payload, Gap, Reset}
 use Rattle.journals.specs.declared.records.Found.{Found}
 use Rattle.journals.specs.declared.records.Found.the-variants.{Whole, More, Unknown}
 use Rattle.journals.specs.declared.replies.Reply.{Reply}
 use Rattle.journals.specs.declared.replies.Reply.the-variants.{Answered, Noted, Cleared}
+use Rattle.journals.specs.declared.turns.Turn.{Turn}
+use Rattle.journals.specs.declared.turns.Turn.the-variants.{Replied}
+use Rattle.journals.specs.declared.turns.Turn.the-variants as turn
 use Rattle.journals.proofs.records.step.Reads as step
 use Rattle.journals.proofs.replies.reply_to.Reads as reply-to
+use Rattle.journals.proofs.turns.advance.Reads as advance
 
 -- the answer that says a step
 foundBy : paper.Step → Found
@@ -58,18 +64,40 @@ reply-back (Answered a) = refl
 reply-back Noted = refl
 reply-back Cleared = refl
 
+-- and a turn
+turnBy : Happened → Turn
+turnBy (replied r k) = Replied (replyBy r) k
+turnBy waits = turn.More
+turnBy stops = turn.Unknown
+
+turn-back : (x : Turn) → turnBy (saidTurn x) ≡ x
+unfolding turnBy
+turn-back (Replied r k) = ap (λ (z : Reply). Replied z k) (reply-back r)
+turn-back turn.More = refl
+turn-back turn.Unknown = refl
+
 -- what is seen at the end
-pub record End : Type 0 where
-  pub reply : Reply
+pub record End (A : Type 0) : Type 0 where
+  pub answer : A
   pub tables : Lent
 
-end-is : {d : paper.Replied} (e : End) → Left d (e .reply) (e .tables .retained) (e .tables .start) (e .tables .blocks) (e .tables .timings)
-    → e ≡ record { reply = replyBy (d .reply); tables = d .lent }
-end-is e p =
-    λ i. record {
-      reply = (sym (reply-back (e .reply)) ∙ ap replyBy (p .reply)) i;
-      tables = lent (p .retained i) (p .start i) (p .blocks i) (p .timings i);
-    }
+module _ {A : Type 0} where
+  abbrev pub ended : A → Lent → End A
+  ended a l = record { answer = a; tables = l }
 
-pub reply-to-determined : Determines {Seen = End} reply-to.Post (λ κs r s. record { reply = r; tables = lent (now (s .1 .1 .0)) (now (s .1 .1 .1 .0)) (now (s .1 .1 .1 .1 .0)) (now (s .1 .1 .1 .1 .1 .0)) })
-reply-to-determined κs a r r′ s s′ p q = end-is _ p ∙ sym (end-is _ q)
+  ended-is : {a a′ : A} {r s b : List ℤ} {t : List ℕ} {l : Lent} → a ≡ a′ → r ≡ l .retained → s ≡ l .start → b ≡ l .blocks → t ≡ l .timings
+      → ended a (lent r s b t) ≡ ended a′ l
+  ended-is a r s b t = λ i. ended (a i) (lent (r i) (s i) (b i) (t i))
+
+module _ {r s b : List ℤ} {t : List ℕ} where
+  reply-is : {d : paper.Replied} {a : Reply} → Left d a r s b t → ended a (lent r s b t) ≡ ended (replyBy (d .reply)) (d .lent)
+  reply-is {a = a} p = ended-is (sym (reply-back a) ∙ ap replyBy (p .reply)) (p .retained) (p .start) (p .blocks) (p .timings)
+
+  turn-is : {d : Turned} {arrived : List ℕ} {x : Turn} → TurnLeft d arrived x r s b t → ended x (lent r s b t) ≡ ended (turnBy (d .happened)) (d .lent)
+  turn-is {x = x} p = ended-is (sym (turn-back x) ∙ ap turnBy (p .said)) (p .retained) (p .start) (p .blocks) (p .timings)
+
+pub reply-to-determined : Determines {Seen = End Reply} reply-to.Post (λ κs r s. ended r (lent (now (s .1 .1 .0)) (now (s .1 .1 .1 .0)) (now (s .1 .1 .1 .1 .0)) (now (s .1 .1 .1 .1 .1 .0))))
+reply-to-determined κs a r r′ s s′ p q = reply-is p ∙ sym (reply-is q)
+
+pub advance-determined : Determines {Seen = End Turn} advance.Post (λ κs x s. ended x (lent (now (s .1 .0)) (now (s .1 .1 .0)) (now (s .1 .1 .1 .0)) (now (s .1 .1 .1 .1 .0))))
+advance-determined κs a x x′ s s′ p q = turn-is p ∙ sym (turn-is q)

@@ -1,13 +1,13 @@
 -- What stands at the head of a list, by its length, its mark and its length field.
 use Prim.Native.Nat.{ℕ, _+_, _*_, _-_, _≤_, _<_}
-use mathlib.Core.Path.{_≡_, refl, sym, ap, _∙_}
+use mathlib.Core.Path.{_≡_, refl, sym}
 use mathlib.Core.Bool.{Bool, true, false, cond, _&&_}
 use mathlib.Core.List.{List, [], _∷_}
 use native.Mathlib.Omega.{arith}
 use borrow.Author.Tests.{le-leb, lt-leb}
 use lib.Dec.{eqb, leb}
 use lib.ListN.{length, getD, take, drop, length-drop}
-use Rattle.standard.specs.Journal.{Step, payload, gapNotice, resetNotice, whole, more, unknown, payloadStep, step}
+use Rattle.standard.specs.Journal.{payload, gapNotice, resetNotice, whole, more, unknown, payloadStep, step}
 use Rattle.journals.specs.Promises.{Stepped}
 use Rattle.journals.specs.declared.records.Kind.the-variants.{Payload, Gap, Reset}
 use Rattle.journals.specs.declared.records.Found.the-variants.{Whole, More, Unknown}

@@ -12,25 +12,25 @@ pub record Taken : Type 0 where
   pub entries : List Entry
   pub reader : Reader
 
-abbrev pub none : Reader → Taken
-none r = record { entries = []; reader = r }
+abbrev pub nothing : Reader → Taken
+nothing r = record { entries = []; reader = r }
 
 abbrev pub further : Entry → Taken → Taken
 further x t = record { entries = x ∷ t .entries; reader = t .reader }
 
 -- the whole records at the head; as many turns as bytes suffice
 unfoldable pub takeFrom : ℕ → ℕ → List ℕ → Taken
-takeFrom zero at s = none (waiting at s)
+takeFrom zero at s = nothing (waiting at s)
 takeFrom (suc n) at s = elim (step s) [
   | whole r k ↦ further (record { what = r; offset = at }) (takeFrom n (at + k) (drop k s))
-  | more ↦ none (waiting at s)
-  | unknown ↦ none (stopped at)
+  | more ↦ nothing (waiting at s)
+  | unknown ↦ nothing (stopped at)
 ]
 
 -- a part arrives
 unfoldable pub arrive : Reader → List ℕ → Taken
 arrive (waiting at kept) part = let s = kept ++ part in takeFrom (length s) at s
-arrive (stopped at) part = none (stopped at)
+arrive (stopped at) part = nothing (stopped at)
 
 -- the input ends
 unfoldable pub endOf : Reader → Ending

@@ -16,6 +16,10 @@ use Rattle.rows.proofs.Storing.{Storing, copy-turn, copied}
 use Rattle.journals.specs.Buffers.{part, Kept, hasRoom, Appended}
 use Rattle.journals.specs.Texts.{Puts}
 
+pub part-length : (l : List ℕ) (from to : ℕ) → to ≤ length l → length (part l from to) ≡ to - from
+unfolding part
+part-length l from to h = length-take-le (to - from) (drop from l) (omega (arith, length-drop from l))
+
 -- an end past the list is the list's
 pub cut-short : (l : List ℕ) (from to : ℕ) → take (min to (length l) - from) (drop from l) ≡ part l from to
 unfolding part

@@ -1,4 +1,4 @@
--- Laws that stand on several functions; callers cite Turnwise and those on determinacy.
+-- Laws that stand on several functions; callers cite Keeping, Turnwise and those on determinacy.
 pub mod Stepping
 pub mod Replying
 pub mod Turning

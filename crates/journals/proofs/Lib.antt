@@ -1,4 +1,12 @@
+-- Laws that stand on several functions; callers cite Keeping, Turnwise and those on determinacy.
 pub mod Stepping
 pub mod Replying
 pub mod Turning
+pub mod Putting
+pub mod Decimal
+pub mod AnswerTexts
+pub mod Printing
+pub mod Turnwise
+pub mod Keeping
 pub mod Determined
+pub mod DeterminedLines

@@ -2,3 +2,6 @@
 pub mod Say
 pub mod Promises
 pub mod Turns
+pub mod Texts
+pub mod Prints
+pub mod Buffers

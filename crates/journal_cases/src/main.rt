@@ -1,0 +1,58 @@
+// Prints several journals that it holds in memory, each under a title: one for each ending, and those at a limit.
+mod shown;
+
+use crate::shown::show;
+use journals::buffers::part;
+
+// The longest record, and a gap behind it.
+const LONGEST: usize = 65541;
+
+fn endings() {
+    show(b"empty\n", b"");
+    show(b"two records\n", b"GPRS");
+    show(b"a lone byte\n", b"G");
+    show(b"a lone byte behind a record\n", b"GPR");
+    show(b"a mark alone\n", b"PL");
+    show(b"one byte of a length\n", b"PL\x00");
+    show(b"a length alone\n", b"PL\x00\x06");
+    show(b"inside a payload\n", b"PL\x00\x06\x01\x04\x48\x00\x06");
+    show(b"an unknown mark\n", b"GPPGRS");
+}
+
+fn doubts() {
+    show(
+        b"the journal of document 01\n",
+        b"GPPL\x00\x06\x01\x04\x48\x00\x06\x00PL\x00\x00PL\x00",
+    );
+    show(
+        b"a reset ends the doubt\n",
+        b"GPRSPL\x00\x06\x01\x04\x48\x00\x06\x00",
+    );
+    show(
+        b"a refusal leaves it\n",
+        b"GPPL\x00\x00PL\x00\x06\x01\x04\x48\x00\x06\x00PL\x00\x06\x01\x04\x48\x00\x06\x00",
+    );
+}
+
+// Payloads of zeros, by the two bytes of their length.
+fn lengths() {
+    let mut bytes = [0u8; LONGEST];
+    bytes[0] = 0x50;
+    bytes[1] = 0x4c;
+    bytes[2] = 0x40;
+    show(b"16,384 bytes\n", part(&bytes, 0, 16388));
+    bytes[3] = 0x01;
+    show(b"16,385 bytes\n", part(&bytes, 0, 16389));
+    show(b"16,385 bytes, the last missing\n", part(&bytes, 0, 16388));
+    bytes[2] = 0xff;
+    bytes[3] = 0xff;
+    bytes[65539] = 0x47;
+    bytes[65540] = 0x50;
+    show(b"65,535 bytes, and a gap\n", &bytes);
+}
+
+fn main() {
+    endings();
+    doubts();
+    lengths();
+}

@@ -1,17 +1,13 @@
--- Laws of readings that write the frame tables: of an object element, of an element's size, and through a call.
-use Prim.Native.Nat.{ℕ, _+_, _≤_, _<_}
+-- Laws of readings that write the frame tables: of an object element, and through a call.
+use Prim.Native.Nat.{ℕ}
 use mathlib.Core.Path.{_≡_, refl, _∙_, ap}
 use mathlib.Core.List.{List}
 use mathlib.Core.Option.{Option, none, some}
-use native.Mathlib.Omega.{arith}
 use lib.IntN.{ℤ}
 use Rattle.bits.specs.Parsed.{Parsed, got, refused, andThen, mapParsed, _>>=_, mapP}
-use Rattle.bits.specs.Reads.{variableBits}
-use Rattle.bits.proofs.Always.{Ok}
-use Rattle.bits.proofs.Laws.{About, Tells, Onward, variable-lt, variable-tells}
 use Rattle.standard.specs.Tree.{Kind, Tree}
 use Rattle.standard.specs.Rows.{Row}
-use Rattle.standard.specs.Syntax.{objectElement, elementSize}
+use Rattle.standard.specs.Syntax.{objectElement}
 use Rattle.objects.specs.Element.{saidElement, ReadElement}
 use Rattle.objects.specs.declared.Element.{Element}
 use Rattle.oamd.specs.Frame.{Frame, writtenBy, onceIn, endIn, objectIn}
@@ -56,18 +52,3 @@ module _ (starts : List Row) (kinds : List Kind) (at : ℕ) (s : List ℕ) (e p 
             ap (λ m. andThen m (λ f q. endIn f s e q)) (tree-framed _ starts h ∙ ap (λ y. framed (mapParsed some (saidElement y)) b′ t′) g) ∙ k;
         behind = record { blocksLong = h .blocksLong; blocksRest = h .blocksRest; timingsLong = h .timingsLong; timingsRest = h .timingsRest };
       }
-
--- An element's size
-
--- at most 69,904 bytes, and the place after it is not past the end
-abbrev pub Sized : About ℕ
-Sized s e p (got v q) = (v ≤ 69904) × (q ≤ e)
-Sized s e p (refused r) = Unit {0}
-
-pub size-tells : Tells Sized elementSize
-unfolding elementSize mapP
-size-tells = record { tells = λ s e p. go s e p (variableBits 4 3 _ s e p) (variable-lt 4 _ (omega arith) .ok s e p) (variable-tells 4 _ 3 .tells s e p) }
-  where
-    go : (s : List ℕ) (e p : ℕ) (x : Parsed ℕ) → Ok (λ v. v < 69904) x → Onward s e p x → Sized s e p (mapParsed (λ v. v + 1) x)
-    go s e p (got v q) h k = omega arith
-    go s e p (refused r) h k = tt

@@ -14,9 +14,9 @@ use Rattle.standard.specs.Rows.{Row}
 use Rattle.oamd.specs.Frame.{Frame, elementIn, elementsIn}
 use Rattle.oamd.specs.Reading.{Behind, framed, Framing, lentFrame}
 use Rattle.oamd.specs.Say.{saidFound, saidElements}
-use Rattle.oamd.specs.declared.elements.Found.{Found}
-use Rattle.oamd.specs.declared.elements.Elements.{Elements}
-use Rattle.oamd.specs.declared.elements.Elements.the-variants as elements
+use Rattle.oamd.specs.declared.content.Found.{Found}
+use Rattle.oamd.specs.declared.content.Elements.{Elements}
+use Rattle.oamd.specs.declared.content.Elements.the-variants as elements
 use Rattle.oamd.proofs.ElementsFraming.{kept, both}
 
 -- i elements of n were read of m₀: those left go on from the frame so far

@@ -1,21 +1,63 @@
 -- Reading the elements and writing the frame tables at once does what the two layers do.
-use Prim.Native.Nat.{ℕ, zero, suc, _-_}
-use mathlib.Core.Path.{_≡_, refl}
+use Prim.Native.Nat.{ℕ, zero, suc, _+_, _*_, _-_}
+use mathlib.Core.Path.{_≡_, refl, sym, _∙_}
 use mathlib.Core.Bool.{Bool}
 use mathlib.Core.List.{List}
 use mathlib.Core.Option.{Option, none, some}
-use lib.Dec.{eqb}
-use Rattle.bits.specs.Parsed.{mapP}
+use lib.Dec.{leb, eqb}
+use Rattle.bits.specs.Parsed.{Parser, _>>=_, _>>_, mapP, pure, within, here, theEnd, goTo, require, truncated}
+use Rattle.bits.specs.Reads.{read, flag}
+use Rattle.bits.proofs.ParsedLaws.{then-got}
 use Rattle.bits.proofs.Makes.{Makes, given, choose, bind, after, next, mapped, none-made, inside}
 use Rattle.standard.specs.Tree.{Kind, Tree}
 use Rattle.standard.specs.Rows.{Row}
-use Rattle.standard.specs.Syntax.{objectElement, once, content, element, elements}
-use Rattle.oamd.specs.Frame.{Frame, writtenBy, onceIn, endIn, objectIn, trimIn, contentIn, insideIn, elementIn, elementsIn}
+use Rattle.standard.specs.Contexts as context
+use Rattle.standard.specs.Syntax.{objectElement, elementSize, alternate, once, content, element, elements}
+use Rattle.objects.proofs.Parses.{then-then}
+use Rattle.oamd.specs.Head.{elementEnd, enter, elementHead}
+use Rattle.oamd.specs.Frame.{Frame, writtenBy, onceIn, endIn, objectIn, trimIn, contentIn, elementIn, elementsIn}
 
 -- the frame tables after the object element, if one was found
 unfoldable pub frameOf : List Row → Frame → Option Tree → Frame
 frameOf starts f none = f
 frameOf starts f (some t) = writtenBy starts f t
+
+-- An element, its content c of the id: in the paper's order, and after its head
+
+module _ {A : Type 0} (alternated : Bool) (c : ℕ → Parser A) where
+  abbrev inOrder : Parser A
+  inOrder = do
+    id ← read 4 context.element-id
+    bytes ← elementSize
+    start ← here
+    end ← theEnd
+    require (leb (start + bytes * 8) end) (truncated context.element start (bytes * 8) (end - start))
+    a ← within (start + bytes * 8) do
+      alternate alternated
+      flag context.discard-unknown-element-flag
+      c id
+    goTo (start + bytes * 8)
+    pure a
+
+  abbrev afterHead : Parser A
+  afterHead = do
+    h ← elementHead alternated
+    a ← within (h .end) (c (h .id))
+    goTo (h .end)
+    pure a
+
+  head-first : (s : List ℕ) (e p : ℕ) → afterHead s e p ≡ inOrder s e p
+  unfolding elementHead elementEnd enter _>>=_ _>>_ pure within here theEnd goTo
+  head-first s e p =
+      let id-read = read 4 context.element-id s e p in
+      then-then id-read _ _ ∙ then-got id-read _ _ λ id q.
+      then-then (elementEnd s e q) _ _ ∙ then-then (elementSize s e q) _ _ ∙ then-got (elementSize s e q) _ _ λ bytes start.
+      let end = start + bytes * 8 in
+      let test = require (leb end e) (truncated context.element start (bytes * 8) (e - start)) s e start in
+      then-then test _ _ ∙ then-got test _ _ λ u q.
+      then-then (enter alternated s end q) _ _ ∙ then-then (alternate alternated s end q) _ _
+      ∙ then-got (alternate alternated s end q) _ _ (λ v q′. let discard = flag context.discard-unknown-element-flag s end q′ in then-then discard _ _ ∙ sym (then-then discard _ _))
+      ∙ sym (then-then (alternate alternated s end q) _ _)
 
 module _ (starts : List Row) (kinds : List Kind) (f : Frame) where
   abbrev after-tree : Option Tree → Frame
@@ -32,10 +74,13 @@ module _ (starts : List Row) (kinds : List Kind) (f : Frame) where
       choose (eqb id 1) (bind _ _ (once-in z at o) λ o′. next _ (given o′)) (choose (eqb id 2) (next _ (next _ (given o))) (given o))
 
   element-in : f .found ≡ none → (alternated : Bool) (o : Option Tree) → Makes after-tree (element alternated kinds o) (elementIn starts alternated kinds (after-tree o))
-  unfolding element elementIn insideIn
-  element-in z alternated o =
-      after _ _ _ λ at. after _ _ _ λ id. after _ _ _ λ bytes. after _ _ _ λ start. after _ _ _ λ end.
-      next _ (bind _ _ (inside _ (next _ (next _ (content-in z at id o)))) λ o′. next _ (given o′))
+  unfolding element elementIn
+  element-in z alternated o = after _ _ _ λ at. record { makes = λ s e p. head-first alternated _ s e p ∙ ordered at .makes s e p }
+    where
+      ordered : (at : ℕ) → Makes after-tree (inOrder alternated (λ id. content kinds at id o)) (inOrder alternated (λ id. contentIn starts kinds at id (after-tree o)))
+      ordered at =
+          after _ _ _ λ id. after _ _ _ λ bytes. after _ _ _ λ start. after _ _ _ λ end.
+          next _ (bind _ _ (inside _ (next _ (next _ (content-in z at id o)))) λ o′. next _ (given o′))
 
   pub elements-in : f .found ≡ none → (n : ℕ) (alternated : Bool) (o : Option Tree) → Makes after-tree (elements n alternated kinds o) (elementsIn starts n alternated kinds (after-tree o))
   unfolding elements elementsIn

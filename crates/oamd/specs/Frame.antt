@@ -1,20 +1,21 @@
 -- Reading the elements and writing the frame tables at once, as the code does.
-use Prim.Native.Nat.{ℕ, zero, suc, _+_, _*_, _-_}
+use Prim.Native.Nat.{ℕ, zero, suc}
 use mathlib.Core.Bool.{Bool, cond}
 use mathlib.Core.List.{List, []}
 use mathlib.Core.Option.{Option, none, some}
-use lib.Dec.{leb, eqb}
+use lib.Dec.{eqb}
 use lib.IntN.{ℤ}
 use lib.ListN.{length}
-use Rattle.bits.specs.Parsed.{Parser, _>>=_, _>>_, mapP, pure, refuse, within, here, theEnd, goTo, require, truncated, invalid}
-use Rattle.bits.specs.Reads.{read, flag, padding}
+use Rattle.bits.specs.Parsed.{Parser, _>>=_, _>>_, mapP, pure, refuse, within, here, goTo, invalid}
+use Rattle.bits.specs.Reads.{padding}
 use Rattle.standard.specs.Contexts as context
 use Rattle.standard.specs.Tree.{Kind, Tree}
 use Rattle.standard.specs.Rows.{Row}
 use Rattle.standard.specs.Meaning.{allRows}
 use Rattle.standard.specs.Tables.{rowsNumbers, byBlock, timingNumbers}
 use Rattle.standard.specs.Calls.{over}
-use Rattle.standard.specs.Syntax.{objectElement, trim, elementSize, alternate}
+use Rattle.standard.specs.Syntax.{objectElement, trim}
+use Rattle.oamd.specs.Head.{elementHead}
 
 -- the number of blocks, once an object element was read, and the frame tables
 pub record Frame : Type 0 where
@@ -55,22 +56,12 @@ trimIn count f = do
 unfoldable pub contentIn : List Row → List Kind → ℕ → ℕ → Frame → Parser Frame
 contentIn starts kinds at id f = cond (eqb id 1) (objectIn starts kinds at f) (cond (eqb id 2) (trimIn (length kinds) f) (pure f))
 
-unfoldable pub insideIn : List Row → Bool → List Kind → ℕ → ℕ → Frame → Parser Frame
-insideIn starts alternated kinds at id f = do
-  alternate alternated
-  flag context.discard-unknown-element-flag
-  contentIn starts kinds at id f
-
 unfoldable pub elementIn : List Row → Bool → List Kind → Frame → Parser Frame
 elementIn starts alternated kinds f = do
   at ← here
-  id ← read 4 context.element-id
-  bytes ← elementSize
-  start ← here
-  end ← theEnd
-  require (leb (start + bytes * 8) end) (truncated context.element start (bytes * 8) (end - start))
-  f′ ← within (start + bytes * 8) (insideIn starts alternated kinds at id f)
-  goTo (start + bytes * 8)
+  h ← elementHead alternated
+  f′ ← within (h .end) (contentIn starts kinds at (h .id) f)
+  goTo (h .end)
   pure f′
 
 unfoldable pub elementsIn : List Row → ℕ → Bool → List Kind → Frame → Parser Frame

@@ -1,3 +1,4 @@
+pub mod Head
 pub mod Frame
 pub mod Whole
 pub mod Trim

@@ -3,16 +3,23 @@ use Prim.Native.Nat.{ℕ}
 use mathlib.Core.Option.{Option, none, some}
 use Rattle.bits.specs.Parsed.{Parsed, got, refused}
 use Rattle.bits.specs.Say.{refusal}
-use Rattle.oamd.specs.declared.element.ElementSize.{ElementSize}
-use Rattle.oamd.specs.declared.element.ElementSize.the-variants as size
-use Rattle.oamd.specs.declared.elements.Found.{Found}
-use Rattle.oamd.specs.declared.elements.Found.the-variants as found
-use Rattle.oamd.specs.declared.elements.Elements.{Elements}
-use Rattle.oamd.specs.declared.elements.Elements.the-variants as elements
+use Rattle.oamd.specs.Head as paper
+use Rattle.oamd.specs.declared.element.ElementEnd.{ElementEnd}
+use Rattle.oamd.specs.declared.element.ElementEnd.the-variants as end
+use Rattle.oamd.specs.declared.element.Head.{Head}
+use Rattle.oamd.specs.declared.element.Head.the-variants as head
+use Rattle.oamd.specs.declared.content.Found.{Found}
+use Rattle.oamd.specs.declared.content.Found.the-variants as found
+use Rattle.oamd.specs.declared.content.Elements.{Elements}
+use Rattle.oamd.specs.declared.content.Elements.the-variants as elements
 
-abbrev pub saidSize : ElementSize → Parsed ℕ
-saidSize (size.Bytes n p) = got (n .0) (p .0)
-saidSize (size.Refused r) = refused (refusal r)
+abbrev pub saidEnd : ElementEnd → Parsed ℕ
+saidEnd (end.At e p) = got (e .0) (p .0)
+saidEnd (end.Refused r) = refused (refusal r)
+
+abbrev pub saidHead : Head → Parsed paper.Head
+saidHead (head.Of i e p) = got (record { id = i; end = e .0 }) (p .0)
+saidHead (head.Refused r) = refused (refusal r)
 
 abbrev pub saidFound : Found → Option ℕ
 saidFound found.Nothing = none

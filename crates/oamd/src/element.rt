@@ -1,20 +1,30 @@
-// How many elements there are; and the head of each: its size, and the alternate data that may come first in it.
+// How many elements there are; and the head of each: all that stands before its content.
 ghost use mathlib.Core.Path.{_≡_};
+ghost use Prim.Native.Nat.{_<_, _^_};
 ghost use Rattle.bits.specs.Say.{said, saidPassed};
 ghost use Rattle.standard.specs.Syntax as paper;
-ghost use Rattle.oamd.specs.Say.{saidSize};
+ghost use Rattle.oamd.specs.Head.{elementEnd, enter, elementHead};
+ghost use Rattle.oamd.specs.Say.{saidEnd, saidHead};
 use crate::contexts;
 use assignment::read_extended;
 use bits::BitPlace;
 use bits::ByteCount;
+use bits::Flag;
 use bits::Number;
 use bits::Passed;
 use bits::Refusal;
 
 const MAX_OAMD_ELEMENTS: u32 = 31;
 
-pub enum ElementSize {
-    Bytes(ByteCount, BitPlace),
+// The id, the place where the element ends, and the place of its content.
+pub enum Head {
+    Of(u32, BitPlace, BitPlace),
+    Refused(Refusal),
+}
+
+// The place where the element ends, and the place after its size.
+enum ElementEnd {
+    At(BitPlace, BitPlace),
     Refused(Refusal),
 }
 
@@ -41,20 +51,79 @@ pub fn read_element_count(payload: &[u8], limit: BitPlace, at: BitPlace) -> Numb
     }
 }
 
-// The size is coded less one.
-pub fn read_element_size(payload: &[u8], limit: BitPlace, at: BitPlace) -> ElementSize
-    ensures { λ r. ⌜ saidSize r ≡ paper.elementSize (now (payload .entry)) (limit .0) (at .0) ⌝ }
+pub fn read_element_head(
+    payload: &[u8],
+    limit: BitPlace,
+    at: BitPlace,
+    alternate_data: bool,
+) -> Head
+    requires { ⌜ limit .0 < 2 ^ 32 ⌝ }
+    ensures { λ r. ⌜ saidHead r ≡ elementHead «alternate_data» (now (payload .entry)) (limit .0) (at .0) ⌝ }
 {
-    match bits::read_variable_bits_max(payload, limit, at, 4, contexts::ELEMENT_SIZE) {
-        Number::Refused(refusal) => ElementSize::Refused(refusal),
-        Number::Value(size_bits, next) => ElementSize::Bytes(
-            ByteCount(size_bits as usize + 1),
-            next,
-        ),
+    match bits::read(payload, limit, at, 4, contexts::ELEMENT_ID) {
+        Number::Refused(refusal) => Head::Refused(refusal),
+        Number::Value(element_id, size_at) => match read_element_end(payload, limit, size_at) {
+            ElementEnd::Refused(refusal) => Head::Refused(refusal),
+            ElementEnd::At(element_end, inside) => {
+                match enter_element(payload, element_end, inside, alternate_data) {
+                    Passed::Refused(refusal) => Head::Refused(refusal),
+                    Passed::To(content) => Head::Of(element_id, element_end, content),
+                }
+            }
+        },
     }
 }
 
-pub fn parse_alternate_data(
+// The size is coded less one.
+fn read_element_end(payload: &[u8], limit: BitPlace, at: BitPlace) -> ElementEnd
+    requires { ⌜ limit .0 < 2 ^ 32 ⌝ }
+    ensures { λ r. ⌜ saidEnd r ≡ elementEnd (now (payload .entry)) (limit .0) (at .0) ⌝ }
+{
+    match bits::read_variable_bits_max(payload, limit, at, 4, contexts::ELEMENT_SIZE) {
+        Number::Refused(refusal) => ElementEnd::Refused(refusal),
+        Number::Value(size_bits, inside) => {
+            let element_bytes = ByteCount(size_bits as usize + 1);
+            let element_bits = element_bytes.bits();
+            let element_end = inside.0 + element_bits.0;
+            if element_end > limit.0 {
+                return ElementEnd::Refused(Refusal::truncated(
+                    contexts::ELEMENT,
+                    inside,
+                    element_bits.0,
+                    limit.0 - inside.0,
+                ));
+            }
+            ElementEnd::At(BitPlace(element_end), inside)
+        }
+    }
+}
+
+// The element's end cuts the reads inside it.
+fn enter_element(
+    payload: &[u8],
+    element_end: BitPlace,
+    at: BitPlace,
+    alternate_data: bool,
+) -> Passed
+    ensures { λ r. ⌜ saidPassed r ≡ enter «alternate_data» (now (payload .entry)) («element_end» .0) (at .0) ⌝ }
+{
+    match parse_alternate_data(payload, element_end, at, alternate_data) {
+        Passed::Refused(refusal) => Passed::Refused(refusal),
+        Passed::To(next) => {
+            match bits::read_flag(
+                payload,
+                element_end,
+                next,
+                contexts::DISCARD_UNKNOWN_ELEMENT_FLAG,
+            ) {
+                Flag::Refused(refusal) => Passed::Refused(refusal),
+                Flag::Is(_discard_unknown, content) => Passed::To(content),
+            }
+        }
+    }
+}
+
+fn parse_alternate_data(
     payload: &[u8],
     limit: BitPlace,
     at: BitPlace,

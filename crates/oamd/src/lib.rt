@@ -1,4 +1,5 @@
 // The decoder: trim, elements, the whole payload, and the call over the lent tables.
+mod content;
 mod contexts;
 pub mod decoder;
 mod element;

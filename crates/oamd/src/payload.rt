@@ -4,18 +4,19 @@ ghost use mathlib.Core.Path.{_≡_};
 ghost use Prim.Native.Nat.{ℕ, _*_, _<_, _≤_, _^_};
 ghost use lib.IntN.{ℤ};
 ghost use lib.ListN.{length};
+ghost use Rattle.bits.specs.Parsed.{andThen};
 ghost use Rattle.standard.specs.Numbers.{payloadLimit};
 ghost use Rattle.standard.specs.Tables.{stateOf};
 ghost use Rattle.objects.specs.Walk.{kindsIn};
 ghost use Rattle.oamd.specs.Asked.{Held, Coded, Roomy};
 ghost use Rattle.oamd.specs.Whole.{finishIn, bodyIn, payloadIn};
-ghost use Rattle.oamd.specs.Reading.{lentFrame};
+ghost use Rattle.oamd.specs.Reading.{framed};
 ghost use Rattle.oamd.specs.Telling.{Telling, lending, outcome, saidPayload};
-ghost use Rattle.oamd.specs.Say.{saidFound};
+ghost use Rattle.oamd.specs.Say.{saidElements};
+use crate::content::Elements;
+use crate::content::Found;
 use crate::contexts;
 use crate::element::read_element_count;
-use crate::elements::Elements;
-use crate::elements::Found;
 use crate::elements::parse_elements;
 use crate::starts::write_starts;
 use assignment::parse_program_assignment;
@@ -93,7 +94,7 @@ fn parse_body(
             Number::Refused(refusal) => Payload::Refused(refusal),
             Number::Value(element_count, next) => {
                 write_starts(retained, kinds, object_count, start);
-                match parse_elements(
+                let elements = parse_elements(
                     payload,
                     limit,
                     next,
@@ -104,35 +105,30 @@ fn parse_body(
                     start,
                     blocks,
                     timings,
-                ) {
-                    Elements::Refused(refusal) => Payload::Refused(refusal),
-                    Elements::Read(found, end) => {
-                        end_payload(payload, limit, end, object_count as u32, found)
-                    }
-                }
+                );
+                end_payload(payload, limit, object_count as u32, elements)
             }
         },
     }
 }
 
 // A missing object element is found after the padding.
-fn end_payload(
-    payload: &[u8],
-    limit: BitPlace,
-    at: BitPlace,
-    object_count: u32,
-    found: Found,
-) -> Payload
-    ensures { λ r. ⌜ ((s b : List ℤ) (t : List ℕ) → outcome (finishIn «object_count» s (lentFrame (saidFound found) b t) (now (payload .entry)) (limit .0) (at .0)) ≡ saidPayload r s b t) ⌝ }
+fn end_payload(payload: &[u8], limit: BitPlace, object_count: u32, elements: Elements) -> Payload
+    ensures { λ r. ⌜ ((s b : List ℤ) (t : List ℕ) → outcome (andThen (framed (saidElements elements) b t) (λ f at. finishIn «object_count» s f (now (payload .entry)) (limit .0) at)) ≡ saidPayload r s b t) ⌝ }
 {
-    match bits::consume_zero_padding(payload, limit, at, contexts::PAYLOAD_PADDING) {
-        Passed::Refused(refusal) => Payload::Refused(refusal),
-        Passed::To(_) => match found {
-            Found::Nothing => Payload::Refused(Refusal::invalid(
-                contexts::MISSING_OBJECT_ELEMENT,
-                limit,
-            )),
-            Found::Blocks(block_count) => Payload::Frame(object_count, block_count),
-        },
+    match elements {
+        Elements::Refused(refusal) => Payload::Refused(refusal),
+        Elements::Read(found, at) => {
+            match bits::consume_zero_padding(payload, limit, at, contexts::PAYLOAD_PADDING) {
+                Passed::Refused(refusal) => Payload::Refused(refusal),
+                Passed::To(_) => match found {
+                    Found::Nothing => Payload::Refused(Refusal::invalid(
+                        contexts::MISSING_OBJECT_ELEMENT,
+                        limit,
+                    )),
+                    Found::Blocks(block_count) => Payload::Frame(object_count, block_count),
+                },
+            }
+        }
     }
 }

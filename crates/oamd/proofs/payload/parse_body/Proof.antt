@@ -45,7 +45,7 @@ parse-elements-requires c κs =
 cast-end-payload : tie.Need-cast-end-payload
 unfolding objectLimit
 cast-end-payload c =
-    let few = entry (c .before .before .before .before .before .before .before .before .before .before .before) .pre .1 .0 .few in
+    let few = entry (c .before .before .before .before .before .before .before .before) .pre .1 .0 .few in
     omega arith
 
 returns : tie.Need-returns
@@ -62,7 +62,7 @@ returns-2 c =
 returns-3 : tie.Need-returns-3
 unfolding bodyIn _>>=_
 returns-3 c =
-    let e = c .before .before .before .before .before .before in
+    let e = c .before .before .before .before in
     let w = e .before .before .before .before .before in
     let k = w .before .before .before in
     let f = k .before .before .before .before in
@@ -73,28 +73,6 @@ returns-3 c =
         ← (k .before .before .read-element-count .ensures),
         k .element-count .given .1,
         rw (begun w) at (e .parse-elements .ensures .same),
-        c .before .refusal3 .given .1,
-      );
-      startRest = rest w;
-      behind = e .parse-elements .ensures .behind;
-    }
-
-returns-4 : tie.Need-returns-4
-unfolding bodyIn _>>=_
-returns-4 c =
-    let o = c .before .before in
-    let e = o .before .before .before .before .before in
-    let w = e .before .before .before .before .before in
-    let k = w .before .before .before in
-    let f = k .before .before .before .before in
-    record {
-      same = rw (
-        ← (f .before .before .read-flag .ensures),
-        f .alternate-data .given .1,
-        ← (k .before .before .read-element-count .ensures),
-        k .element-count .given .1,
-        rw (begun w) at (e .parse-elements .ensures .same),
-        o .found .given .1,
         kinds-count (entry w .args .object-count) (entry w .args .kinds .now) (entry w .pre .1 .0 .there),
         ← (w .write-starts .ensures),
       )
@@ -116,8 +94,6 @@ parse-body-spec =
     (λ c. search needs)
     (λ c κs. search needs)
     parse-elements-requires
-    (λ c. search needs)
-    (λ c. search needs)
     cast-end-payload
     (λ c κs. search needs)
     returns
@@ -125,8 +101,4 @@ parse-body-spec =
     (λ c. search needs)
     (λ c. search needs)
     (λ c. search needs)
-    returns-3
-    (λ c. search needs)
-    (λ c. search needs)
-    (λ c. search needs)
-    returns-4)
+    returns-3)

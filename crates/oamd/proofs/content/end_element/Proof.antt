@@ -1,9 +1,9 @@
--- `oamd::elements::end_element` meets its contract.
+-- `oamd::content::end_element` meets its contract.
 use borrow.Author.Needs.{needs}
 use Rattle.bits.specs.Parsed.{_>>_, pure}
 use Rattle.oamd.specs.Frame.{endIn}
-use Rattle.oamd.proofs.elements.end_element.Statement.{statement}
-use Rattle.oamd.proofs.elements.end_element.Tie as tie
+use Rattle.oamd.proofs.content.end_element.Statement.{statement}
+use Rattle.oamd.proofs.content.end_element.Tie as tie
 
 pub end-element-spec : {M : Type 1} → statement M
 unfolding endIn _>>_ pure

@@ -1,12 +1,12 @@
--- `oamd::elements::parse_content` meets its contract.
+-- `oamd::content::parse_content` meets its contract.
 use borrow.Author.Needs.{needs}
 use borrow.Author.Tests.{ne-eqb}
 use Rattle.bits.specs.Parsed.{pure}
 use Rattle.objects.proofs.Turns.{kinds-length}
 use Rattle.oamd.specs.Frame.{contentIn}
 use Rattle.oamd.proofs.ElementsFraming.{unwritten}
-use Rattle.oamd.proofs.elements.parse_content.Statement.{statement}
-use Rattle.oamd.proofs.elements.parse_content.Tie as tie
+use Rattle.oamd.proofs.content.parse_content.Statement.{statement}
+use Rattle.oamd.proofs.content.parse_content.Tie as tie
 
 objects : tie.Need-returns
 unfolding contentIn

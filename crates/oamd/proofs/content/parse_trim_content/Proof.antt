@@ -1,9 +1,9 @@
--- `oamd::elements::parse_trim_content` meets its contract.
+-- `oamd::content::parse_trim_content` meets its contract.
 use borrow.Author.Needs.{needs}
 use Rattle.bits.specs.Parsed.{_>>_}
 use Rattle.oamd.specs.Frame.{trimIn}
-use Rattle.oamd.proofs.elements.parse_trim_content.Statement.{statement}
-use Rattle.oamd.proofs.elements.parse_trim_content.Tie as tie
+use Rattle.oamd.proofs.content.parse_trim_content.Statement.{statement}
+use Rattle.oamd.proofs.content.parse_trim_content.Tie as tie
 
 pub parse-trim-content-spec : {M : Type 1} → statement M
 unfolding trimIn _>>_

@@ -1,11 +1,11 @@
--- `oamd::elements::parse_object_content` meets its contract.
+-- `oamd::content::parse_object_content` meets its contract.
 use mathlib.Core.Path.{refl}
 use borrow.Author.Needs.{needs}
 use Rattle.bits.specs.Parsed.{_>>=_, refuse}
 use Rattle.oamd.specs.Frame.{onceIn, objectIn}
 use Rattle.oamd.proofs.ElementsFraming.{unwritten, object-read}
-use Rattle.oamd.proofs.elements.parse_object_content.Statement.{statement}
-use Rattle.oamd.proofs.elements.parse_object_content.Tie as tie
+use Rattle.oamd.proofs.content.parse_object_content.Statement.{statement}
+use Rattle.oamd.proofs.content.parse_object_content.Tie as tie
 
 duplicate : tie.Need-returns
 unfolding objectIn onceIn _>>=_ refuse

@@ -1,0 +1,128 @@
+// The content of an element, by its id; what is left of the element is zero.
+ghost use mathlib.Core.Path.{_≡_};
+ghost use mathlib.Core.List.{List};
+ghost use lib.IntN.{ℤ};
+ghost use Prim.Native.Nat.{ℕ};
+ghost use Rattle.standard.specs.Tables.{rowsOf};
+ghost use Rattle.objects.specs.Element.{Room};
+ghost use Rattle.objects.specs.Walk.{kindsIn};
+ghost use Rattle.oamd.specs.Frame.{endIn, objectIn, trimIn, contentIn};
+ghost use Rattle.oamd.specs.Reading.{Framing, framed, lentFrame};
+ghost use Rattle.oamd.specs.Say.{saidFound, saidElements};
+use crate::contexts;
+use crate::trim::parse_trim_element;
+use bits::BitPlace;
+use bits::Passed;
+use bits::Refusal;
+use objects::Element;
+use objects::parse_object_element;
+
+const OBJECT_ELEMENT_ID: u32 = 1;
+
+const TRIM_ELEMENT_ID: u32 = 2;
+
+// The number of blocks, once an object element was read.
+pub enum Found {
+    Nothing,
+    Blocks(u32),
+}
+
+// What the elements so far gave.
+pub enum Elements {
+    Read(Found, BitPlace),
+    Refused(Refusal),
+}
+
+pub fn parse_content(
+    payload: &[u8],
+    element_end: BitPlace,
+    at: BitPlace,
+    element_id: u32,
+    id_at: BitPlace,
+    kinds: &[u8],
+    object_count: usize,
+    start: &[i16],
+    found: Found,
+    blocks: &mut [i16],
+    timings: &mut [u16],
+) -> Elements
+    requires { ⌜ Room «object_count» (now kinds) (now start) (now blocks) (now timings) ⌝ }
+    ensures { λ r. ⌜ Framing (contentIn (rowsOf «object_count» (now (start .entry))) (kindsIn «object_count» (now (kinds .entry))) («id_at» .0) «element_id» (lentFrame (saidFound found) (now (blocks .entry)) (now (timings .entry))) (now (payload .entry)) («element_end» .0) (at .0)) (saidElements r) (now (blocks .entry)) (now (blocks .exit)) (now (timings .entry)) (now (timings .exit)) ⌝ }
+{
+    match element_id {
+        OBJECT_ELEMENT_ID => parse_object_content(
+            payload,
+            element_end,
+            at,
+            id_at,
+            kinds,
+            object_count,
+            start,
+            found,
+            blocks,
+            timings,
+        ),
+        TRIM_ELEMENT_ID => parse_trim_content(payload, element_end, at, object_count, found),
+        // What an unknown element holds is free.
+        _ => Elements::Read(found, at),
+    }
+}
+
+fn parse_object_content(
+    payload: &[u8],
+    element_end: BitPlace,
+    at: BitPlace,
+    id_at: BitPlace,
+    kinds: &[u8],
+    object_count: usize,
+    start: &[i16],
+    found: Found,
+    blocks: &mut [i16],
+    timings: &mut [u16],
+) -> Elements
+    requires { ⌜ Room «object_count» (now kinds) (now start) (now blocks) (now timings) ⌝ }
+    ensures { λ r. ⌜ Framing (objectIn (rowsOf «object_count» (now (start .entry))) (kindsIn «object_count» (now (kinds .entry))) («id_at» .0) (lentFrame (saidFound found) (now (blocks .entry)) (now (timings .entry))) (now (payload .entry)) («element_end» .0) (at .0)) (saidElements r) (now (blocks .entry)) (now (blocks .exit)) (now (timings .entry)) (now (timings .exit)) ⌝ }
+{
+    let Found::Nothing = found else {
+        return Elements::Refused(Refusal::invalid(contexts::DUPLICATE_OBJECT_ELEMENT, id_at));
+    };
+    match parse_object_element(
+        payload,
+        element_end,
+        at,
+        kinds,
+        object_count,
+        start,
+        blocks,
+        timings,
+    ) {
+        Element::Refused(refusal) => Elements::Refused(refusal),
+        Element::Blocks(block_count, next) => {
+            end_element(payload, element_end, next, Found::Blocks(block_count))
+        }
+    }
+}
+
+fn parse_trim_content(
+    payload: &[u8],
+    element_end: BitPlace,
+    at: BitPlace,
+    object_count: usize,
+    found: Found,
+) -> Elements
+    ensures { λ r. ⌜ ((b : List ℤ) (t : List ℕ) → trimIn «object_count» (lentFrame (saidFound found) b t) (now (payload .entry)) («element_end» .0) (at .0) ≡ framed (saidElements r) b t) ⌝ }
+{
+    match parse_trim_element(payload, element_end, at, object_count) {
+        Passed::Refused(refusal) => Elements::Refused(refusal),
+        Passed::To(next) => end_element(payload, element_end, next, found),
+    }
+}
+
+fn end_element(payload: &[u8], element_end: BitPlace, at: BitPlace, found: Found) -> Elements
+    ensures { λ r. ⌜ ((b : List ℤ) (t : List ℕ) → endIn (lentFrame (saidFound found) b t) (now (payload .entry)) («element_end» .0) (at .0) ≡ framed (saidElements r) b t) ⌝ }
+{
+    match bits::consume_zero_padding(payload, element_end, at, contexts::ELEMENT_PADDING) {
+        Passed::Refused(refusal) => Elements::Refused(refusal),
+        Passed::To(next) => Elements::Read(found, next),
+    }
+}

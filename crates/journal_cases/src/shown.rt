@@ -44,7 +44,16 @@ fn turn(
     let rest = part(journal, place.from, journal.len());
     let number = std::num::wrapping_add_u64(place.records, 1);
     let offset = place.from as u64;
-    match print_next(rest, number, offset, retained, start, blocks, timings, &mut line) {
+    match print_next(
+        rest,
+        number,
+        offset,
+        retained,
+        start,
+        blocks,
+        timings,
+        &mut line,
+    ) {
         Printed::Line { used, length } => {
             print(&line, length);
             Place {

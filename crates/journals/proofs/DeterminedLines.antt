@@ -57,7 +57,7 @@ same-print : {number offset : ℕ} {d : Turned} {arrived out : List ℕ} {x x′
     → print x r s b t m ≡ print x′ r′ s′ b′ t′ m′
 same-print p q =
     λ i. print ((p .answer ∙ sym (q .answer)) i) ((p .retained ∙ sym (q .retained)) i) ((p .start ∙ sym (q .start)) i)
-      ((p .blocks ∙ sym (q .blocks)) i) ((p .timings ∙ sym (q .timings)) i) ((p .put ∙ sym (q .put)) i)
+    ((p .blocks ∙ sym (q .blocks)) i) ((p .timings ∙ sym (q .timings)) i) ((p .put ∙ sym (q .put)) i)
 
 pub print-next-determined : Determines {Seen = Print} print-next.Post
     (λ κs x s. print x (now (s .1 .1 .1 .0)) (now (s .1 .1 .1 .1 .0)) (now (s .1 .1 .1 .1 .1 .0)) (now (s .1 .1 .1 .1 .1 .1 .0)) (now (s .1 .1 .1 .1 .1 .1 .1 .0)))

@@ -50,7 +50,7 @@ module _ (l : List ℕ) (from to : ℕ) where
       let long = length-drop from l in
       let short = length-take-le i (drop from l) (omega arith) in
       let same : getD m (from + i) 0 ≡ getD l (from + i) 0
-        = ap (λ (x : List ℕ). getD x (from + i) 0) (k .same) ∙ getD-other l 0 (take i (drop from l)) (from + i) 0 (inr (omega arith)) in
+      = ap (λ (x : List ℕ). getD x (from + i) 0) (k .same) ∙ getD-other l 0 (take i (drop from l)) (from + i) 0 (inr (omega arith)) in
       rw same (rw zero-add at (copy-turn l from 0 room h k))
 
   pub kept : {n i : ℕ} {m : List ℕ} → n ≡ min to (length l) - from → from ≤ length l → n ≤ i → Storing l 0 (take i (drop from l)) n i m → Kept l from to n m

@@ -1,0 +1,194 @@
+"""Payloads, bit by bit, in document 01's reading order."""
+
+
+class Bits:
+    """A run of bits, the first on the left."""
+
+    def __init__(self):
+        self.text = ""
+
+    def put(self, value, width):
+        assert 0 <= value < 1 << width
+        self.text += format(value, f"0{width}b")
+
+    def flag(self, value):
+        self.put(int(value), 1)
+
+    def filled(self):
+        """The bits as bytes, with zeros up to a whole byte."""
+        text = self.text + "0" * (-len(self.text) % 8)
+        return bytes(int(text[i : i + 8], 2) for i in range(0, len(text), 8))
+
+
+# What is said of one object in one block. Each writes its own bits; `settles` says whether the whole
+# picture is known afterwards, whatever it was before.
+
+
+class Inactive:
+    settles = False
+
+    def write(self, bits, first, dynamic):
+        bits.flag(True)  # not active
+        bits.flag(False)  # no table data
+
+
+class Active:
+    """Heard at 0 dB with the default priority. A fixed object has no picture to say."""
+
+    def __init__(self, render=None):
+        self.render = render
+        self.settles = render is not None and render.settles
+
+    def write(self, bits, first, dynamic):
+        bits.flag(False)
+        if not first:
+            bits.put(1, 2)  # basic status: gain and priority
+        bits.put(0, 2)  # gain code: 0 dB
+        bits.flag(True)  # default priority
+        if dynamic:
+            assert first == (type(self.render) is At and self.render.first)
+            self.render.write(bits)
+        bits.flag(False)  # no table data
+
+
+class At:
+    """Stands at x, y of 62nds and z of 15ths, in block 0 or later: all four groups, an absolute position."""
+
+    settles = True
+
+    def __init__(self, x, y, z, first=True):
+        self.x, self.y, self.z, self.first = x, y, z, first
+
+    def write(self, bits):
+        if not self.first:
+            bits.put(1, 2)  # render status: all four groups
+            bits.flag(False)  # not differential
+        bits.put(self.x, 6)
+        bits.put(self.y, 6)
+        bits.flag(self.z >= 0)  # sign: 1 is positive
+        bits.put(abs(self.z), 4)
+        write_rest(bits)
+
+
+class Moved:
+    """Past block 0: steps from -4 to 3 from where it stood, so it is known only if that was."""
+
+    settles = False
+
+    def __init__(self, x, y, z):
+        self.steps = (x, y, z)
+
+    def write(self, bits):
+        bits.put(1, 2)
+        bits.flag(True)  # differential
+        for step in self.steps:
+            bits.put(step % 8, 3)
+        write_rest(bits)
+
+
+class Kept:
+    """Past block 0: the picture stays as it was."""
+
+    settles = False
+
+    def write(self, bits):
+        bits.put(2, 2)  # render status: kept
+
+
+class Parked:
+    """Past block 0: the default picture, said by the mix itself."""
+
+    settles = True
+
+    def write(self, bits):
+        bits.put(0, 2)  # render status: default
+
+
+def write_rest(bits):
+    """What follows a position: no distance, zone 0 with elevation, no size, no screen, no lock."""
+    bits.flag(False)
+    bits.put(0, 3)
+    bits.flag(True)
+    bits.put(0, 2)
+    bits.flag(False)
+    bits.flag(False)
+
+
+# Which objects there are. `kinds` has True for each dynamic object.
+
+
+class DynamicOnly:
+    def __init__(self, lfe, dynamic):
+        self.lfe, self.kinds = lfe, [False] * lfe + [True] * dynamic
+
+    def write(self, bits):
+        bits.flag(True)  # dynamic only
+        bits.flag(self.lfe)
+
+
+class BedAndDynamic:
+    """A bed of six, left, right, centre, bass and two surrounds, and dynamic objects behind it."""
+
+    def __init__(self, dynamic):
+        self.dynamic, self.kinds = dynamic, [False] * 6 + [True] * dynamic
+
+    def write(self, bits):
+        bits.flag(False)  # not dynamic only
+        bits.put(8 + 2, 4)  # content: beds and dynamic objects
+        bits.flag(False)  # distribution
+        bits.flag(False)  # one bed
+        bits.flag(False)  # not the LFE alone
+        bits.flag(True)  # a standard bed
+        bits.put(1 << 6 | 1 << 7 | 1 << 8 | 1 << 9, 10)  # channels of widths 2, 1, 1, 2
+        bits.put(self.dynamic - 1, 5)
+
+
+def write_size(bits, size):
+    """A size in bytes less 1, in groups of 4 bits: each later group is v x 16 + 16 + next."""
+    groups, value = [], size - 1
+    while value >= 16:
+        value -= 16
+        groups.insert(0, value % 16)
+        value //= 16
+    groups.insert(0, value)
+    for index, group in enumerate(groups):
+        bits.put(group, 4)
+        bits.flag(index + 1 < len(groups))
+
+
+def object_element(assignment, objects, blocks):
+    """The objects' updates, `blocks` of them each, in blocks that begin 256 samples apart."""
+    bits = Bits()
+    bits.flag(False)  # discard flag
+    bits.put(0, 2)  # no sample offset
+    bits.put(blocks - 1, 3)
+    for block in range(blocks):
+        bits.put(8 * block, 6)  # of 32 samples
+        bits.put(0, 2)  # no ramp
+    bits.flag(True)  # no reserved data
+    for dynamic, updates in zip(assignment.kinds, objects, strict=True):
+        assert len(updates) == blocks
+        for block, update in enumerate(updates):
+            update.write(bits, block == 0, dynamic)
+    return bits
+
+
+class Payload:
+    """A payload that is accepted: its bytes, and where the object element's content begins."""
+
+    def __init__(self, assignment, objects):
+        self.assignment, self.objects = assignment, objects
+        self.blocks = len(objects[0])
+        element = object_element(assignment, objects, self.blocks)
+        bits = Bits()
+        bits.put(0, 2)  # version
+        bits.put(len(assignment.kinds) - 1, 5)
+        assignment.write(bits)
+        bits.flag(False)  # no alternate data
+        bits.put(1, 4)  # one element
+        bits.put(1, 4)  # id: objects
+        size = -(-len(element.text) // 8)
+        write_size(bits, size)
+        self.content = len(bits.text)
+        bits.text += element.text + "0" * (8 * size - len(element.text))
+        self.bytes = bits.filled()

@@ -8,9 +8,9 @@ use lib.Dec.{eqb}
 use lib.ListN.{length, take, drop, length-map}
 use lib.Seq.{sets, sets-eq, length-sets, take-at}
 use Rattle.bits.specs.Parsed.{Refusal, Parsed, got, refused, Parser, andThen, _>>_, pure, refuse, require}
+use Rattle.bits.proofs.ParsedLaws.{Made, made-got, made-refused}
 use Rattle.standard.specs.Tree.{Kind, kindCode}
 use Rattle.assignment.specs.Kinds.{Table, holding, extend, onto, Assigned}
-use Rattle.assignment.proofs.Laws.{Made, made-got, made-refused}
 use Rattle.assignment.proofs.Filling.{counted, extend-count, extend-codes}
 
 -- the kinds that were read onto a table

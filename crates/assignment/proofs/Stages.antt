@@ -1,14 +1,14 @@
 -- The definitions in the stages in which the code reads them.
 use Prim.Native.Nat.{ℕ, _-_, _<_}
-use mathlib.Core.Path.{_≡_, refl, sym, _∙_}
+use mathlib.Core.Path.{_≡_, sym, _∙_}
 use mathlib.Core.Bool.{Bool, true, false, cond}
 use mathlib.Core.List.{List, [], _∷_, _++_, map}
 use native.Mathlib.Omega.{arith}
 use lib.ListN.{length, replicate, length-replicate}
 use Rattle.bits.specs.Bits.{isSet}
-use Rattle.bits.specs.Parsed.{Parsed, got, refused, andThen, mapParsed, _>>=_, _>>_, mapP, pure, times}
+use Rattle.bits.specs.Parsed.{Parsed, andThen, mapParsed, _>>=_, _>>_, mapP, pure, times}
 use Rattle.bits.specs.Reads.{read, flag}
-use Rattle.bits.proofs.ParsedLaws.{then-got}
+use Rattle.bits.proofs.ParsedLaws.{then-got, then-then}
 use Rattle.standard.specs.Contexts as context
 use Rattle.standard.specs.Tree.{Kind, lfe, dynamic, kindCode}
 use Rattle.standard.specs.Assignment.{oneBed, joined, beds, isfs, dynamics, skipBytes, contents}
@@ -47,9 +47,6 @@ module _ (v : ℕ) (s : List ℕ) (e : ℕ) where
 
   abbrev pub afterContent : Table → ℕ → Parsed Table
   afterContent t q = andThen (onto t (cond (isSet 3 v) beds (pure []) s e q)) afterBeds
-
-then-then : {A B C : Type 0} (m : Parsed A) (f : A → ℕ → Parsed B) (g : B → ℕ → Parsed C) → andThen (andThen m f) g ≡ andThen m (λ a q. andThen (f a q) g)
-then-then m f g = elim m [ got a q ↦ refl | refused r ↦ refl ]
 
 module _ (s : List ℕ) (e p : ℕ) where
   pub onto-contents : (t : Table) → onto t (contents s e p) ≡ andThen (read 4 context.content-description s e p) (λ v q. afterContent v s e t q)

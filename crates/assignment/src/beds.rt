@@ -11,7 +11,6 @@ ghost use Rattle.standard.specs.Tree.{kindCode};
 ghost use Rattle.standard.specs.Assignment as paper;
 ghost use Rattle.assignment.specs.Kinds.{holding, extend, onto, saidTable};
 ghost use Rattle.assignment.specs.Parts.{bedCount, bedChannels, channelKind, channels};
-use crate::contents::is_set;
 use crate::contexts;
 use crate::kinds::BED;
 use crate::kinds::LFE;
@@ -20,6 +19,7 @@ use crate::kinds::push;
 use bits::BitPlace;
 use bits::Flag;
 use bits::Number;
+use bits::is_set;
 
 // The widths of the channels, from bit 0; bit 0 and one more are Lfe.
 const STANDARD_WIDTHS: [u8; 10] = [1, 2, 2, 2, 2, 2, 2, 1, 1, 2];
@@ -185,7 +185,7 @@ fn extend_chosen(
 {
     let mut total = count;
     for index in 0..widths.len() {
-        let chosen = is_set(index, assignment);
+        let chosen = is_set(assignment, index);
         let kind = channel_kind(second_lfe, index);
         total = extend_if(kinds, total, chosen, kind, widths[index]);
     }

@@ -3,7 +3,6 @@ ghost use mathlib.Core.Path.{_≡_};
 ghost use mathlib.Core.Bool.{cond};
 ghost use mathlib.Core.List.{[]};
 ghost use Prim.Native.Nat.{_<_, _^_};
-ghost use Rattle.bits.specs.Bits.{isSet};
 ghost use Rattle.bits.specs.Parsed.{pure};
 ghost use Rattle.bits.specs.Say.{saidPassed};
 ghost use Rattle.standard.specs.Contexts as context;
@@ -20,6 +19,7 @@ use bits::BitPlace;
 use bits::Number;
 use bits::Passed;
 use bits::Refusal;
+use bits::is_set;
 
 const ISF_COUNTS: [u32; 6] = [4, 8, 10, 14, 15, 30];
 
@@ -31,29 +31,22 @@ pub fn parse_contents(payload: &[u8], limit: BitPlace, at: BitPlace, kinds: &mut
     let Number::Value(content, at) = description else {
         return description;
     };
-    let beds = parse_beds(payload, limit, at, is_set(3, content), kinds);
+    let beds = parse_beds(payload, limit, at, is_set(content, 3), kinds);
     let Number::Value(count, at) = beds else {
         return beds;
     };
-    let isf = parse_isf(payload, limit, at, is_set(2, content), kinds, count);
+    let isf = parse_isf(payload, limit, at, is_set(content, 2), kinds, count);
     let Number::Value(count, at) = isf else {
         return isf;
     };
-    let dynamic = parse_dynamic(payload, limit, at, is_set(1, content), kinds, count);
+    let dynamic = parse_dynamic(payload, limit, at, is_set(content, 1), kinds, count);
     let Number::Value(count, at) = dynamic else {
         return dynamic;
     };
-    match parse_reserved_data(payload, limit, at, is_set(0, content)) {
+    match parse_reserved_data(payload, limit, at, is_set(content, 0)) {
         Passed::To(end) => Number::Value(count, end),
         Passed::Refused(refusal) => Number::Refused(refusal),
     }
-}
-
-pub fn is_set(bit: usize, value: u32) -> bool
-    requires { ⌜ bit < 32 ⌝ }
-    ensures { λ r. ⌜ r ≡ isSet bit value ⌝ }
-{
-    (value >> bit) % 2 == 1
 }
 
 fn parse_isf(

@@ -4,7 +4,7 @@ use mathlib.Core.Path.{_≡_, refl, sym, _∙_}
 use mathlib.Core.Bool.{Bool, true, false, cond}
 use mathlib.Core.List.{List}
 use mathlib.Core.Option.{Option, none, some}
-use Rattle.bits.specs.Parsed.{Parsed, got, refused, Parser, andThen, mapParsed, _>>=_, _>>_, mapP, pure, optional, here, Placed, placed, Refusal, refuse, within}
+use Rattle.bits.specs.Parsed.{Parsed, got, refused, Parser, andThen, mapParsed, _>>=_, _>>_, mapP, pure, optional, here, placed, Refusal, refuse, within}
 use Rattle.bits.proofs.Always.{Ok, Always, anything}
 use Rattle.bits.proofs.ParsedLaws.{map-map, placed-word}
 

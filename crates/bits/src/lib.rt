@@ -8,6 +8,12 @@ ghost use Rattle.bits.specs.Parsed.{truncated, invalid, limit, unsupport
 ghost use Rattle.bits.specs.Reads as reads;
 ghost use Rattle.bits.specs.Say.{refusal, said, saidFlag, saidPassed, saidSigned};
 
+mod values;
+
+pub use values::is_set;
+use values::two_to;
+use values::with_sign;
+
 const MAX_VARIABLE_BITS_GROUPS: usize = 4;
 
 // Sizes in bytes and places in bits are kept apart: `bits` is the one way across.
@@ -108,26 +114,6 @@ pub fn read_signed(
         Number::Value(value, next) => Signed::Value(with_sign(value, width), next),
         Number::Refused(refusal) => Signed::Refused(refusal),
     }
-}
-
-// The upper half of the range stands for the numbers below zero.
-fn with_sign(value: u32, width: usize) -> i16
-    requires { ⌜ ((0 < width) × (width < 15)) × (value < 2 ^ width) ⌝ }
-    ensures { λ r. ⌜ r ≡ reads.signed width value ⌝ }
-{
-    let number = value as i16;
-    if value < two_to(width - 1) {
-        number
-    } else {
-        number - two_to(width) as i16
-    }
-}
-
-fn two_to(exponent: usize) -> u32
-    requires { ⌜ exponent < 32 ⌝ }
-    ensures { λ r. ⌜ r ≡ 2 ^ exponent ⌝ }
-{
-    1 << exponent
 }
 
 pub fn read_variable_bits_max(

@@ -4,17 +4,16 @@ use mathlib.Core.Path.{_≡_, refl, sym, _∙_, ap, subst}
 use mathlib.Core.Bool.{true, false, _&&_}
 use mathlib.Core.Logic.{inl}
 use mathlib.Core.List.{List, [], _∷_, _++_, map}
-use native.Mathlib.Nat.{mul-le-mul-right, suc-mul}
+use native.Mathlib.Nat.{suc-mul}
 use native.Mathlib.Omega.{arith}
 use borrow.Author.Tests.{le-leb, lt-leb, leb-true}
 use lib.Dec.{leb}
 use lib.IntN.{ℤ, pos}
 use lib.ListN.{length, getD, take, drop, replicate, length-replicate, take-append-drop}
-use Rattle.bits.specs.Parsed.{refused}
 use Rattle.bits.specs.Say as bits
 use Rattle.bits.specs.declared.Refusal.{Refusal}
 use Rattle.bits.proofs.Always.{All}
-use Rattle.standard.specs.Numbers.{rowWidth, objectLimit, blockLimit, retainedLength, startLength, blocksLength, timingsLength, payloadLimit}
+use Rattle.standard.specs.Numbers.{rowWidth, retainedLength, startLength, blocksLength, timingsLength, payloadLimit}
 use Rattle.standard.specs.Numbers as number
 use Rattle.standard.specs.Tree.{Object, Tree, kindsOf}
 use Rattle.standard.specs.Rows.{Row, State, noRow}
@@ -28,6 +27,7 @@ use Rattle.standard.proofs.LastBlock.{last-numbers}
 use Rattle.standard.proofs.Counts.{Sized}
 use Rattle.rows.proofs.Written.{over-same}
 use Rattle.rows.proofs.Rows.{rows-back}
+use Rattle.objects.proofs.Parts.{fit}
 use Rattle.oamd.specs.Whole.{Whole, payloadIn, wholeOf}
 use Rattle.oamd.specs.Asked.{Roomy}
 use Rattle.oamd.specs.Reading.{Behind}
@@ -117,12 +117,6 @@ last-rows st t b z =
 
 -- The payload was read: a frame
 
-frame-fits : (m n : ℕ) → m ≤ blockLimit → n ≤ objectLimit → m * n * rowWidth ≤ blocksLength
-unfolding blockLimit objectLimit rowWidth blocksLength
-frame-fits m n h k =
-    let e : m * n ≤ 8 * n = mul-le-mul-right n h in
-    omega arith
-
 module _ (s : List ℕ) (r st b : List ℤ) (ti : List ℕ) (few : length s ≤ payloadLimit) (w : Whole) (tells : Tells (stateOf r) (lending st b ti) s w) where
   pub retainable : retainedLength ≤ length r → blocksLength ≤ length (w .blocks) → Retainable (w .objects) (w .count) r (w .blocks)
   unfolding wholeOf
@@ -130,7 +124,7 @@ module _ (s : List ℕ) (r st b : List ℤ) (ti : List ℕ) (few : length s ≤ 
       let z = sized-tree s few (tells .said) in
       let n = ap (λ (v : Whole). v .objects) (tells .leaves) in
       let m = ap (λ (v : Whole). v .count) (tells .leaves) in
-      let f = frame-fits (w .count) (w .objects) (omega (arith, z .blocks, m)) (omega (arith, z .objects, n)) in
+      let f = fit (w .count) (w .objects) (omega (arith, z .blocks, m)) (omega (arith, z .objects, n)) in
       record { few = omega (arith, z .objects, n); some = omega (arith, z .first, m); long = long; there = omega arith }
 
   pub accepted : {f : Frame} {r′ : List ℤ} → Retained (w .objects) (w .count) (w .blocks) f r r′

@@ -7,13 +7,12 @@ use mathlib.Core.Option.{Option, none, some}
 use lib.Dec.{leb, eqb}
 use Rattle.bits.specs.Parsed.{Parser, _>>=_, _>>_, mapP, pure, within, here, theEnd, goTo, require, truncated}
 use Rattle.bits.specs.Reads.{read, flag}
-use Rattle.bits.proofs.ParsedLaws.{then-got}
+use Rattle.bits.proofs.ParsedLaws.{then-got, then-then}
 use Rattle.bits.proofs.Makes.{Makes, given, choose, bind, after, next, mapped, none-made, inside}
 use Rattle.standard.specs.Tree.{Kind, Tree}
 use Rattle.standard.specs.Rows.{Row}
 use Rattle.standard.specs.Contexts as context
 use Rattle.standard.specs.Syntax.{objectElement, elementSize, alternate, once, content, element, elements}
-use Rattle.objects.proofs.Parses.{then-then}
 use Rattle.oamd.specs.Head.{elementEnd, enter, elementHead}
 use Rattle.oamd.specs.Frame.{Frame, writtenBy, onceIn, endIn, objectIn, trimIn, contentIn, elementIn, elementsIn}
 

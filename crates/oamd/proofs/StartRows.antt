@@ -1,5 +1,5 @@
 -- The start rows, written one after the other: each is the retained row or the default row of its object.
-use Prim.Native.Nat.{ℕ, zero, suc, _+_, _-_, _*_, _≤_, _<_}
+use Prim.Native.Nat.{ℕ, zero, suc, _+_, _*_, _≤_, _<_}
 use mathlib.Core.Path.{_≡_, refl, _∙_, ap}
 use mathlib.Core.Bool.{Bool, true, false, cond, false≢true}
 use mathlib.Core.List.{List, [], _∷_, _++_, map}
@@ -15,9 +15,9 @@ use Rattle.standard.specs.Meaning.{heldRow, defaultRow, sameKinds, startRows}
 use Rattle.standard.specs.Tables.{rowsNumbers}
 use Rattle.standard.specs.Calls.{over}
 use Rattle.standard.proofs.Small.{and-right}
+use Rattle.standard.proofs.Laid.{over-length}
 use Rattle.rows.specs.Places.{put}
 use Rattle.rows.proofs.Rows.{put-next, length-rowsNumbers}
-use Rattle.rows.proofs.Written.{length-over}
 
 -- Each start row
 
@@ -64,7 +64,7 @@ module _ {rs : List Row} {l₀ l : List ℤ} {o : ℕ} (fits : length rs * rowWi
       let n = length-rowsNumbers (take o rs) in
       let k = taken in
       let m = w .within in
-      rw (w .same) (length-over l₀ (rowsNumbers (take o rs)) (omega arith))
+      rw (w .same) (over-length (rowsNumbers (take o rs)) l₀ (omega arith))
 
   pub write-row : o < length rs → Writing rs l₀ (o + 1) (put l (o * rowWidth) (getD rs o noRow))
   unfolding rowWidth

@@ -5,7 +5,7 @@ use mathlib.Core.Bool.{Bool, true, false, cond}
 use mathlib.Core.List.{List}
 use native.Mathlib.Omega.{arith}
 use lib.IntN.{ℤ, pos}
-use lib.ListN.{length, getD, take, drop, length-map}
+use lib.ListN.{length, getD, take, drop}
 use lib.Seq.{length-take-le, getD-take}
 use Rattle.standard.specs.Numbers.{rowWidth, objectLimit, retainedHead, startLength}
 use Rattle.standard.specs.Tree.{lfe, kindCode}
@@ -20,6 +20,7 @@ use Rattle.rows.proofs.Rows.{length-rowsOf, length-rowsNumbers, rows-back}
 use Rattle.rows.proofs.Keeping.{retained-row}
 use Rattle.update.specs.Kinds.{kindOf}
 use Rattle.objects.specs.Walk.{kindsIn}
+use Rattle.objects.proofs.Turns.{kinds-length}
 use Rattle.oamd.proofs.StartRows.{map-at, same-length, start-at}
 
 pub rows-count : (l : List ℤ) → length (stateOf l .rows) ≡ countOf l
@@ -27,9 +28,6 @@ unfolding stateOf
 rows-count l = length-rowsOf (countOf l) _
 
 module _ (n : ℕ) (codes : List ℕ) (there : n ≤ length codes) where
-  pub kinds-count : length (kindsIn n codes) ≡ n
-  kinds-count = length-map (take n codes) kindOf ∙ length-take-le n codes there
-
   kind-at : (o : ℕ) → o < n → getD (kindsIn n codes) o lfe ≡ kindOf (getD codes o 0)
   kind-at o h =
       map-at kindOf (take n codes) o 0 lfe (rw (length-take-le n codes there) h) ∙ ap kindOf (getD-take n codes o 0 h)
@@ -41,7 +39,7 @@ module _ (n : ℕ) (codes : List ℕ) (there : n ≤ length codes) where
   kind-tested l e o h = rw (kind-at o h, retained-row l o (omega arith))
 
   pub starts-count : (l : List ℤ) → length (startRows (stateOf l) (kindsIn n codes)) ≡ n
-  starts-count l = start-length (stateOf l) (kindsIn n codes) ∙ kinds-count
+  starts-count l = start-length (stateOf l) (kindsIn n codes) ∙ kinds-length n codes there
 
   -- and are read again where they were written
   pub starts-back : (l z : List ℤ) → rowsOf n (over (rowsNumbers (startRows (stateOf l) (kindsIn n codes))) z) ≡ startRows (stateOf l) (kindsIn n codes)
@@ -64,14 +62,14 @@ module _ (n : ℕ) (codes : List ℕ) (there : n ≤ length codes) where
       ≡ cond (sameKinds (kindsIn n codes) (stateOf l .rows)) (heldRow (getD l 1 (pos 0)) (rowAt l (retainedHead + o * rowWidth))) (defaultRow (getD l 1 (pos 0)) (kindOf (getD codes o 0)))
   unfolding stateOf
   start-found l o h =
-      let k = kinds-count in
+      let k = kinds-length n codes there in
       start-at (stateOf l) (kindsIn n codes) o (omega arith) ∙ rw (kind-at o h) (go (sameKinds (kindsIn n codes) (stateOf l .rows)) refl)
     where
       go : (b : Bool) → sameKinds (kindsIn n codes) (stateOf l .rows) ≡ b
           → cond b (heldRow (stateOf l .doubt) (getD (stateOf l .rows) o noRow)) (defaultRow (stateOf l .doubt) (kindOf (getD codes o 0)))
           ≡ cond b (heldRow (getD l 1 (pos 0)) (rowAt l (retainedHead + o * rowWidth))) (defaultRow (getD l 1 (pos 0)) (kindOf (getD codes o 0)))
       go true e =
-          let k = kinds-count in
+          let k = kinds-length n codes there in
           let j = same-length (kindsIn n codes) (stateOf l .rows) e in
           let i = rows-count l in
           rw (retained-row l o (omega arith))

@@ -17,6 +17,7 @@ use Rattle.standard.specs.Meaning.{taken}
 use Rattle.standard.specs.Syntax.{syntax}
 use Rattle.standard.proofs.Counts.{Sized, sized}
 use Rattle.assignment.specs.Kinds.{Assigned}
+use Rattle.assignment.proofs.Laws.{listed}
 use Rattle.update.specs.Kinds.{kindOf}
 use Rattle.update.proofs.KindLaws.{kind-of-code}
 use Rattle.objects.specs.Walk.{kindsIn}
@@ -32,29 +33,8 @@ codes-kinds : (ks : List Kind) → map kindOf (map kindCode ks) ≡ ks
 codes-kinds [] = refl
 codes-kinds (k ∷ ks) = λ i. kind-of-code k i ∷ codes-kinds ks i
 
-module _ {m : Parsed (List Kind)} {n : ℕ} {before after : List ℕ} where
-  pub kinds-read : {p : ℕ} → Assigned m n (got tt p) before after → m ≡ got (kindsIn n after) p
-  kinds-read {p} a = go m refl
-    where
-      go : (x : Parsed (List Kind)) → m ≡ x → m ≡ got (kindsIn n after) p
-      go (got ks q) e =
-          let f : got tt p ≡ got tt q = a .answered ∙ ap (mapParsed (λ ks. tt)) e in
-          let place : p ≡ q = cc in
-          e ∙ rw (a .codes ks q e, place, codes-kinds ks)
-      go (refused r) e =
-          let f : got tt p ≡ refused r = a .answered ∙ ap (mapParsed (λ ks. tt)) e in
-          cc
-
-  pub kinds-refused : {r : Refusal} → Assigned m n (refused r) before after → m ≡ refused r
-  kinds-refused {r} a = go m refl
-    where
-      go : (x : Parsed (List Kind)) → m ≡ x → m ≡ refused r
-      go (got ks q) e =
-          let f : refused r ≡ got tt q = a .answered ∙ ap (mapParsed (λ ks. tt)) e in
-          cc
-      go (refused r′) e =
-          let f : refused r ≡ refused r′ = a .answered ∙ ap (mapParsed (λ ks. tt)) e in
-          cc
+pub kinds-read : {m : Parsed (List Kind)} {n : ℕ} {before after : List ℕ} {p : ℕ} → Assigned m n (got tt p) before after → m ≡ got (kindsIn n after) p
+kinds-read a = let l = listed a in l .gives ∙ rw (l .begins, codes-kinds (l .kinds))
 
 -- Nothing was written
 

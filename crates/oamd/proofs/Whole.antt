@@ -18,6 +18,7 @@ use Rattle.standard.specs.Meaning.{startRows, frameRows}
 use Rattle.standard.specs.Syntax.{objectElement, elements, present, body, payload}
 use Rattle.standard.specs.Tables.{rowsNumbers}
 use Rattle.standard.specs.Calls.{over}
+use Rattle.standard.proofs.Counts.{object-kind}
 use Rattle.standard.proofs.Payload.{in-elements}
 use Rattle.oamd.specs.Frame.{Frame, writtenBy}
 use Rattle.oamd.specs.Whole.{Lending, presentIn, finishIn, bodyIn, payloadIn, wholeOf}
@@ -27,10 +28,6 @@ use Rattle.oamd.proofs.FrameBridge.{frameOf, elements-in}
 
 abbrev Of : List Kind → Tree → Type 0
 Of ks t = kindsOf t ≡ ks
-
-object-kind : (m : ℕ) (k : Kind) → Always (λ (o : Object). o .kind ≡ k) (object m k)
-unfolding object
-object-kind m k = always.after _ _ λ u. always.after _ _ λ us. always.given _ refl
 
 objects-kinds : (m : ℕ) (ks : List Kind) → Always (λ os. map (λ (o : Object). o .kind) os ≡ ks) (each (object m) ks)
 unfolding each

@@ -11,20 +11,16 @@ use bits::Refusal;
 use rows::form::in_form;
 use rows::numbers::BLOCKS_LENGTH;
 use rows::numbers::FORM;
+use rows::numbers::PAYLOAD_LIMIT;
 use rows::numbers::RETAINED_LENGTH;
 use rows::numbers::ROOM;
 use rows::numbers::ROW_WIDTH;
+use rows::numbers::SIZE;
 use rows::numbers::START_LENGTH;
 use rows::numbers::TIMINGS_LENGTH;
 use rows::retained::keep_rows;
 use rows::table::clear;
 use rows::table::clear_timings;
-
-// The longest payload that is read, in bytes.
-const PAYLOAD_LIMIT: usize = 16384;
-
-// The number that a longer one gives.
-const SIZE: u32 = 7;
 
 pub struct Frame {
     pub objects: u32,

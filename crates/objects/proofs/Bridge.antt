@@ -9,8 +9,8 @@ use lib.ListN.{length, drop}
 use lib.Seq.{drop-drop}
 use borrow.Author.Tests.{ne-eqb}
 use Rattle.bits.specs.Parsed.{andThen, mapParsed, _>>=_, mapP, pure, times, each}
-use Rattle.bits.proofs.Always.{Always, after, given, together}
-use Rattle.bits.proofs.ParsedLaws.{then-got, map-then, then-map}
+use Rattle.bits.proofs.Always.{Always, together}
+use Rattle.bits.proofs.ParsedLaws.{then-got, map-then, then-map, map-last, then-such}
 use Rattle.standard.specs.Numbers.{rowWidth}
 use Rattle.standard.specs.Tree.{Kind, Object}
 use Rattle.standard.specs.Updates.{update, object}
@@ -18,10 +18,9 @@ use Rattle.standard.specs.Rows.{Row}
 use Rattle.standard.specs.Meaning.{updated, objectRows, allRows, gainOf}
 use Rattle.standard.specs.Tables.{rowsOf}
 use Rattle.standard.proofs.Frames.{object-rows-length}
-use Rattle.standard.proofs.Counts.{object-length}
+use Rattle.standard.proofs.Counts.{object-kind, object-length}
 use Rattle.rows.specs.Places.{rowAt, put}
 use Rattle.objects.specs.Walk.{place, gainBefore, columnFrom, objectsFrom}
-use Rattle.objects.proofs.Parses.{map-last, then-such}
 use Rattle.objects.proofs.Columns.{putColumn, putColumns, gainsFrom, gains-keep, gains-back, column-length}
 
 module _ (n o : ℕ) (k : Kind) (s : List ℕ) (e : ℕ) (h : o < n) where
@@ -59,11 +58,7 @@ abbrev Read : ℕ → Kind → Object → Type 0
 Read m k x = (x .kind ≡ k) × (length (x .updates) ≡ suc m)
 
 object-read : (m : ℕ) (k : Kind) → Always (Read m k) (object m k)
-unfolding object
-object-read m k = together (kind-read m k) (object-length m k)
-  where
-    kind-read : (m : ℕ) (k : Kind) → Always (λ (x : Object). x .kind ≡ k) (object m k)
-    kind-read m k = after _ _ λ u. after _ _ λ us. given _ refl
+object-read m k = together (object-kind m k) (object-length m k)
 
 module _ (n m : ℕ) (start : List ℤ) (s : List ℕ) (e : ℕ) where
   next-row : (o : ℕ) → drop rowWidth (drop (o * rowWidth) start) ≡ drop (suc o * rowWidth) start

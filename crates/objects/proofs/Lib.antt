@@ -1,6 +1,5 @@
 pub mod Places
 pub mod Columns
-pub mod Parses
 pub mod Bridge
 pub mod Transposed
 pub mod Walked

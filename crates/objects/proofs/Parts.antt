@@ -10,7 +10,7 @@ use Rattle.bits.specs.Parsed.{Parsed, got, refused, andThen, mapParsed, _>>=_, 
 use Rattle.bits.specs.Reads.{read}
 use Rattle.bits.specs.declared.Passed.{Passed}
 use Rattle.bits.proofs.Always.{Always, after, bind, next, given, mapped-such}
-use Rattle.bits.proofs.ParsedLaws.{then-got, map-then, then-map, map-map}
+use Rattle.bits.proofs.ParsedLaws.{then-got, map-then, then-map, map-map, then-then, then-pure, then-such}
 use Rattle.bits.proofs.Fields.{read-lt}
 use Rattle.standard.specs.Contexts as context
 use Rattle.standard.specs.Numbers.{rowWidth, objectLimit, blockLimit, blocksLength, timingsLength}
@@ -26,7 +26,6 @@ use Rattle.objects.specs.Walk.{objectsFrom}
 use Rattle.objects.specs.Element.{blockTimings, timedBy, saidElement, timingsAfter, blocksAfter, ReadElement}
 use Rattle.objects.specs.declared.Element.{Element}
 use Rattle.objects.proofs.Filling.{to, behind}
-use Rattle.objects.proofs.Parses.{then-pure, then-then, then-such}
 use Rattle.bits.proofs.Always.{times-length}
 use Rattle.objects.proofs.Walked.{walk-is}
 

@@ -1,24 +1,23 @@
 -- The timings, read one after the other and each stored where it was read.
-use Prim.Native.Nat.{ℕ, zero, suc, _+_, _*_, _-_, _≤_, _<_}
+use Prim.Native.Nat.{ℕ, suc, _+_, _*_, _-_, _≤_, _<_}
 use mathlib.Core.Path.{_≡_, refl, sym, _∙_, ap}
 use mathlib.Core.List.{List, [], _∷_}
 use native.Mathlib.Numerals.{add-one}
 use native.Mathlib.Omega.{arith}
 use lib.ListN.{length, set, drop}
 use lib.Seq.{drop-set-lt}
-use Rattle.bits.specs.Parsed.{Parsed, got, Parser, andThen, mapParsed, _>>=_, pure, times}
+use Rattle.bits.specs.Parsed.{Parsed, got, andThen, mapParsed, _>>=_, pure, times}
 use Rattle.bits.specs.declared.Passed.{Passed}
 use Rattle.bits.proofs.Always.{times-length}
-use Rattle.bits.proofs.ParsedLaws.{then-got, map-then, then-map}
+use Rattle.bits.proofs.ParsedLaws.{then-got, map-then, then-map, map-last, map-such}
 use Rattle.standard.specs.Tree.{Timing}
-use Rattle.standard.specs.Syntax.{sampleOffsets, sampleOffset, timing}
+use Rattle.standard.specs.Syntax.{timing}
 use Rattle.standard.specs.Tables.{timingNumbers}
 use Rattle.standard.specs.Calls.{over}
 use Rattle.rows.specs.Places.{written}
 use Rattle.rows.proofs.Written.{written-over}
 use Rattle.objects.specs.Fills.{Filling, leaving, Fills, putTiming}
 use Rattle.objects.proofs.Filling.{to, on}
-use Rattle.objects.proofs.Parses.{map-last, map-such}
 
 -- One timing
 

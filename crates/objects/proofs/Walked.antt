@@ -8,6 +8,7 @@ use lib.IntN.{ℤ, pos}
 use lib.ListN.{length, getD, drop, replicate}
 use Rattle.bits.specs.Parsed.{mapParsed, each}
 use Rattle.bits.proofs.Always.{All, at-each, as-many, together}
+use Rattle.bits.proofs.ParsedLaws.{map-such}
 use Rattle.standard.specs.Numbers.{rowWidth}
 use Rattle.standard.specs.Tree.{Kind, Update, Object}
 use Rattle.standard.specs.Updates.{object}
@@ -18,7 +19,6 @@ use Rattle.standard.specs.Calls.{over}
 use Rattle.standard.proofs.Counts.{object-length}
 use Rattle.standard.proofs.Frames.{object-rows-length, all-rows-length}
 use Rattle.objects.specs.Walk.{gainBefore, objectsFrom}
-use Rattle.objects.proofs.Parses.{map-such}
 use Rattle.objects.proofs.Columns.{gainsFrom}
 use Rattle.objects.proofs.Bridge.{all-columns}
 use Rattle.objects.proofs.Transposed.{Full, columns-blocks}

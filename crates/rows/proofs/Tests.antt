@@ -17,8 +17,8 @@ use Rattle.standard.specs.Tables.{every, between}
 
 -- A signed number in a local is its bits
 
-pub back : (z : ℤ) → mag z < 2 ^ 15 → toZ w16 (ofZ w16 z) ≡ z
-back z h = toZ-ofZ (sfits-of h)
+pub back : {z : ℤ} → mag z < 2 ^ 15 → toZ w16 (ofZ w16 z) ≡ z
+back h = toZ-ofZ (sfits-of h)
 
 pub bits-is : (n : ℕ) (v : ℤ) → n < 2 ^ 15 → mag v < 2 ^ 15 → eqb (ofZ w16 v) n ≡ is n v
 bits-is n (pos m) k h = refl

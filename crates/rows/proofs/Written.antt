@@ -77,9 +77,6 @@ module _ {A : Type 0} where
       let k : 0 + length vs ≤ length l = omega arith in
       sets-eq vs l 0 k ∙ rw zero-add
 
-  pub length-over : (l vs : List A) → length vs ≤ length l → length (over vs l) ≡ length l
-  length-over l vs h = rw (← written-over l vs h) (length-written l 0 vs)
-
   -- what lay at the head does not matter
   pub over-same : (vs l m : List A) (n : ℕ) → length vs ≡ n → drop n l ≡ drop n m → over vs l ≡ over vs m
   over-same vs l m n e f = rw (e, f)

@@ -1,4 +1,4 @@
-// Every size of the lent tables, and the numbers given back here, each named once.
+// Every size of what is lent, and the numbers given back here, each named once.
 pub const ROW_WIDTH: usize = 15;
 
 pub const OBJECT_LIMIT: usize = 128;
@@ -16,10 +16,15 @@ pub const BLOCKS_LENGTH: usize = START_LENGTH * BLOCK_LIMIT;
 
 pub const TIMINGS_LENGTH: usize = 2 * BLOCK_LIMIT;
 
+// The longest payload that is read, in bytes.
+pub const PAYLOAD_LIMIT: usize = 16384;
+
 pub const ACCEPTED: u32 = 0;
 
 pub const ROOM: u32 = 5;
 
 pub const FORM: u32 = 6;
+
+pub const SIZE: u32 = 7;
 
 pub const INDEX: u32 = 12;

@@ -1,5 +1,5 @@
 -- How much a payload says: from 1 to 128 objects, from 1 to 8 blocks, and each object in every block.
-use Prim.Native.Nat.{ℕ, zero, suc, _+_, _-_, _≤_, _<_}
+use Prim.Native.Nat.{ℕ, suc, _+_, _-_, _≤_, _<_}
 use mathlib.Core.Path.{_≡_, refl, ap}
 use mathlib.Core.Bool.{Bool, true, false, cond}
 use mathlib.Core.List.{List, _∷_}
@@ -7,7 +7,7 @@ use native.Mathlib.Omega.{arith}
 use lib.Dec.{leb, eqb}
 use lib.ListN.{length, replicate, length-replicate}
 use borrow.Author.Tests.{leb-true, eqb-true}
-use Rattle.bits.specs.Parsed.{Parser, _>>=_, times}
+use Rattle.bits.specs.Parsed.{_>>=_}
 use Rattle.bits.proofs.Always.{Ok, All, Always, bind, after, next, mapped, choose, given, required, weaken, at-each, as-many, together, all-to, times-length}
 use Rattle.bits.proofs.Fields.{read-lt}
 use Rattle.standard.specs.Numbers.{objectLimit, blockLimit}
@@ -20,10 +20,10 @@ use Rattle.standard.proofs.Payload.{in-taken}
 
 -- Kinds
 
-abbrev Counted : ℕ → Type 0
+abbrev pub Counted : ℕ → Type 0
 Counted n = (0 < n) × (n ≤ objectLimit)
 
-count-form : Always Counted objectCount
+pub count-form : Always Counted objectCount
 unfolding objectCount
 count-form =
     after _ _ λ at. after _ _ λ v. required (leb (v + 1) objectLimit) _ λ h. let l = leb-true (v + 1) objectLimit h in given _ (omega arith, l)
@@ -48,7 +48,11 @@ Some ks = Counted (length ks)
 kinds-counted : Always Some (objectCount >>= assignment)
 kinds-counted = bind _ count-form λ n h. weaken (assigned n (h .0)) λ ks e. let l = h .0 in let u = h .1 in (omega arith, omega arith)
 
--- Blocks
+-- Objects
+
+pub object-kind : (m : ℕ) (k : Kind) → Always (λ (o : Object). o .kind ≡ k) (object m k)
+unfolding object
+object-kind m k = after _ _ λ u. after _ _ λ us. given _ refl
 
 pub object-length : (m : ℕ) (k : Kind) → Always (λ o. length (o .updates) ≡ suc m) (object m k)
 unfolding object

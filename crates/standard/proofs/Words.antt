@@ -13,7 +13,6 @@ use Rattle.bits.specs.Bits.{isSet}
 use Rattle.bits.specs.Parsed.{Placed}
 use Rattle.bits.proofs.Always.{Ok, All, Always, IfSome, OfWord, bind, after, next, mapped, mapped-such, choose, given, none-given, repeated, required, if-some, at-place}
 use Rattle.bits.proofs.Fields.{read-lt}
-use Rattle.standard.specs.Contexts as context
 use Rattle.standard.specs.Tree.{Kind, isDynamic, Zone, Size, GainWord, level, copied, PositionWord, absolute, moved, Basic, Groups, Render, default, kept, Update, inactive, active, Object}
 use Rattle.standard.specs.Updates.{decibels, silence, gainWord, priorityWord, basic, differential, absolutely, positionWord, bit, zoneWord, sized, sizeWord, screenWord, groups, render, activeUpdate, update, object}
 use Rattle.standard.specs.Meaning.{taken}

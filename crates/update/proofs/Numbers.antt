@@ -1,29 +1,22 @@
 -- Numbers of 16 bits, and what a negated test tells.
-use Prim.Native.Nat.{ℕ, zero, suc, _+_, _≤_, _<_}
+use Prim.Native.Nat.{ℕ, _+_, _≤_, _<_}
 use mathlib.Core.Bool.{Bool, true, false, not}
 use mathlib.Core.Path.{_≡_, refl, sym, _∙_, ap}
 use native.Mathlib.Omega.{arith}
-use borrow.Author.Tests.{le-ltb, not-true, not-false}
+use borrow.Author.Tests.{not-true, not-false}
 use lib.Dec.{ltb}
-use lib.IntN.{ℤ, pos, subℕ, _-ℤ_}
+use lib.IntN.{ℤ, pos, subℕ}
 use lib.Signed.{mag}
 use mir.Syntax.{w16}
 use mir.Val.{toZ, ofZ}
-use mir.Facts.{toZ-ofZ, toZ-pos}
+use mir.Facts.{toZ-pos}
+use Rattle.rows.proofs.Tests.{back}
 
 -- a small number is the same with a sign
 pub up : (n : ℕ) → n < 32768 → toZ w16 n ≡ pos n
 up n h = toZ-pos w16 h
 
--- a small number comes back from its bits
-pub back : {z : ℤ} → mag z < 32768 → toZ w16 (ofZ w16 z) ≡ z
-back h = toZ-ofZ (record { sfits = h })
-
--- a difference of two naturals, and its size
-pub minus : (a b : ℕ) → pos a -ℤ pos b ≡ subℕ a b
-minus a zero = rw (le-ltb a 0 (omega arith)) (ap pos (omega arith))
-minus a (suc b) = refl
-
+-- how large a difference of two naturals is
 pub mag-minus : (a b : ℕ) → mag (subℕ a b) ≤ a + b
 mag-minus a b = go (ltb a b) refl
   where

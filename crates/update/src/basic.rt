@@ -13,15 +13,15 @@ use crate::contexts::OBJECT_GAIN;
 use crate::contexts::OBJECT_GAIN_INDEX;
 use crate::contexts::OBJECT_PRIORITY;
 use crate::read_parts;
-use crate::state::SILENCE;
-use crate::state::is_set;
 use crate::state::silenced;
 use crate::state::with_gain;
 use crate::state::with_priority;
 use bits::BitPlace;
 use bits::Flag;
 use bits::Number;
+use bits::is_set;
 use rows::row::Row;
+use rows::row::SILENCE;
 
 // The gain of the object before, in the same block: no gain of the row's own.
 pub struct PreviousGain(pub i16);

@@ -31,8 +31,8 @@ use contexts::BASIC_INFO_STATUS;
 use contexts::OBJECT_NOT_ACTIVE_FLAG;
 use contexts::RENDER_INFO_STATUS;
 use render::parse_render_info;
+use rows::row::DYNAMIC;
 use rows::row::Row;
-use state::DYNAMIC;
 use state::SETTLED;
 use state::begun;
 use state::default_picture;
@@ -96,7 +96,7 @@ fn parse_state(
             let Updated::Row(at, row) = levelled else {
                 return levelled;
             };
-            if kind < DYNAMIC {
+            if kind < DYNAMIC as u8 {
                 return Updated::Row(at, row);
             }
             match read_status(payload, limit, at, first, RENDER_INFO_STATUS) {

@@ -21,13 +21,13 @@ use crate::contexts::POSITION_X;
 use crate::contexts::POSITION_Y;
 use crate::contexts::POSITION_Z;
 use crate::contexts::POSITION_Z_SIGN;
-use crate::state::is_set;
 use crate::state::with_position;
 use bits::BitPlace;
 use bits::Flag;
 use bits::Number;
 use bits::Passed;
 use bits::Signed;
+use bits::is_set;
 use rows::row::Position;
 use rows::row::Row;
 

@@ -20,7 +20,6 @@ use crate::position::parse_position;
 use crate::read_parts;
 use crate::state::SETTLED;
 use crate::state::default_picture;
-use crate::state::is_set;
 use crate::state::with_lock;
 use crate::state::with_screen;
 use crate::state::with_size;
@@ -29,6 +28,7 @@ use bits::BitPlace;
 use bits::Flag;
 use bits::Number;
 use bits::Refusal;
+use bits::is_set;
 use rows::row::Row;
 
 pub fn parse_render_info(

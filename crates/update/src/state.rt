@@ -2,34 +2,21 @@
 ghost use mathlib.Core.Path.{_≡_};
 ghost use Prim.Native.Nat.{_≤_, _<_};
 ghost use lib.IntN.{pos};
-ghost use Rattle.bits.specs.Bits.{isSet};
 ghost use Rattle.standard.specs.Updates.{bit, sized};
 ghost use Rattle.standard.specs.Rows.{defaultPicture};
 ghost use Rattle.rows.specs.Say.{positionSaid, pictureSaid, rowSaid};
 ghost use Rattle.update.specs.Kinds.{kindOf};
 ghost use Rattle.update.specs.Passes as pass;
+use rows::row::DYNAMIC;
 use rows::row::Picture;
 use rows::row::Position;
 use rows::row::Row;
+use rows::row::SILENCE;
 use rows::row::Size;
 use rows::row::Zone;
 
-// The kind of an object that moves, after those that are fixed.
-pub const DYNAMIC: u8 = 3;
-
-// The gain that stands for minus infinity.
-pub const SILENCE: i16 = -128;
-
 // The mark of a settled picture.
 pub const SETTLED: i16 = 1;
-
-// Whether a bit of a number is set, counted from the lowest.
-pub fn is_set(flags: u32, bit: u32) -> bool
-    requires { ⌜ bit < 32 ⌝ }
-    ensures { λ r. ⌜ r ≡ isSet bit flags ⌝ }
-{
-    (flags >> bit) % 2 == 1
-}
 
 pub fn number_of(flag: bool) -> i16
     ensures { λ r. ⌜ r ≡ bit flag ⌝ }
@@ -42,11 +29,11 @@ pub fn begun(mut row: Row, kind: u8, inactive: bool) -> Row
     ensures { λ r. ⌜ rowSaid r ≡ pass.begun (kindOf kind) inactive (rowSaid row) ⌝ }
 {
     row.active = number_of(!inactive);
-    if kind < DYNAMIC {
+    if kind < DYNAMIC as u8 {
         row.kind = kind as i16;
         row.mark = SETTLED;
     } else {
-        row.kind = DYNAMIC as i16;
+        row.kind = DYNAMIC;
     }
     row
 }

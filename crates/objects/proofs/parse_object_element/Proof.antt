@@ -1,16 +1,18 @@
 -- `objects::parse_object_element` meets its contract.
 use Prim.Native.Nat.{_*_, _≤_}
 use mathlib.Core.Path.{_≡_, refl, sym}
+use mathlib.Core.List.{List}
 use native.Mathlib.Omega.{arith}
 use borrow.Author.Needs.{needs}
-use Rattle.bits.specs.Parsed.{andThen, mapParsed, mapP}
+use lib.IntN.{ℤ}
+use Rattle.bits.specs.Parsed.{Parsed, andThen, mapParsed, mapP}
 use Rattle.bits.specs.declared.Number.{Number}
 use Rattle.bits.proofs.Laws.{gives}
 use Rattle.standard.specs.Numbers.{rowWidth, blocksLength, timingsLength}
 use Rattle.standard.specs.Syntax.{objectElement}
 use Rattle.standard.specs.Tables.{rowsOf}
 use Rattle.objects.specs.Fills.{Filling}
-use Rattle.objects.specs.Element.{timedAs}
+use Rattle.objects.specs.Element.{timedBy, timedAs, blockTimings}
 use Rattle.objects.specs.Walk.{kindsIn, objectsFrom}
 use Rattle.objects.proofs.Filling.{begin, on}
 use Rattle.objects.proofs.Turns.{kinds-length}
@@ -41,22 +43,29 @@ used : (c : tie.After-block-count) →
 unfolding mapP
 used c =
     let h = c .before .before .before .before in
-    fit _ _ (gives (timedAs _) (few-timed _) (sym (h .parse-block-timings .ensures .same)) (c .block-count .given .1)) (h .before .before .before .before .before .pre .few)
+    let a = h .before .before .before .before .before .args in
+    fit _ _ (gives (timedAs _) (few-timed _) (sym {a = mapP (timedBy (a .timings .now)) blockTimings (a .payload .now) (a .limit .0) (a .at .0)} (h .parse-block-timings .ensures .same)) (c .block-count .given .1)) (h .before .before .before .before .before .pre .few)
 
 parse-objects-requires : tie.Need-parse-objects-requires
 parse-objects-requires c κs = let u = used (c .before .before) in search needs
+
+abbrev objects-read : tie.After-block-count → Parsed (List ℤ)
+objects-read c =
+    let a = c .before .before .before .before .before .before .before .before .before .args in
+    let b = c .block-count .given .0 in
+    objectsFrom (a .object-count) (b .0) (a .start .now) 0 (kindsIn (a .object-count) (a .kinds .now)) (a .blocks .now) (a .payload .now) (a .limit .0) (b .1 .0 .0)
 
 cut-objects : tie.Need-returns-2
 cut-objects c =
     let o = c .before .before .before .before in
     let b = o .before .before .before in
-    objects-left _ _ _ (at-head (b .before .before .before .before) (b .block-count .given .1)) (o .parse-objects .ensures) (used b) (c .before .refusal2 .given .1) refl
+    objects-left {x = objects-read b} _ _ _ (at-head (b .before .before .before .before) (b .block-count .given .1)) (o .parse-objects .ensures) (used b) (c .before .refusal2 .given .1) refl
 
 all : tie.Need-returns-3
 all c =
     let o = c .before .before .before .before in
     let b = o .before .before .before in
-    objects-left _ _ _ (at-head (b .before .before .before .before) (b .block-count .given .1)) (o .parse-objects .ensures) (used b) (c .before .end .given .1) refl
+    objects-left {x = objects-read b} _ _ _ (at-head (b .before .before .before .before) (b .block-count .given .1)) (o .parse-objects .ensures) (used b) (c .before .end .given .1) refl
 
 pub parse-object-element-spec : {M : Type 1} → statement M
 parse-object-element-spec =

@@ -67,6 +67,6 @@ parse-state-spec =
     (tie.spec
     (λ c κs. search needs) (λ c. rw (c .silenced .ensures, c .before .if1 .taken)) (λ c κs. search needs)
     (λ c. search needs) (λ c. search needs) (λ c κs. search needs) (λ c. search needs) (λ c. search needs) returns-2
-    returns-3 (λ c κs. search needs) (λ c. search needs) (λ c. search needs) (λ c κs. search needs)
+    (λ c. search needs) returns-3 (λ c κs. search needs) (λ c. search needs) (λ c. search needs) (λ c κs. search needs)
     (λ c. rw (c .before .before .before .before .if1 .left, ← (c .before .before .before .read-status .ensures), c .before .refusal .given .1))
     returns-5 returns-6)

@@ -1,7 +1,7 @@
 -- `oamd::element::parse_alternate_data` meets its contract.
 use borrow.Author.Needs.{needs}
 use borrow.Author.Tests.{not-true, not-false, eq-eqb, ne-eqb}
-use Rattle.bits.specs.Parsed.{_>>=_, _>>_, pure, refuse, here, require}
+use Rattle.bits.specs.Parsed.{_>>=_, pure, refuse, here, require}
 use Rattle.standard.specs.Syntax.{alternate}
 use Rattle.oamd.proofs.element.parse_alternate_data.Statement.{statement}
 use Rattle.oamd.proofs.element.parse_alternate_data.Tie as tie

@@ -1,15 +1,19 @@
 -- `oamd::payload::parse_body` meets its contract.
 use mathlib.Core.Path.{_≡_, ap, _∙_}
+use mathlib.Core.List.{List}
 use native.Mathlib.Omega.{arith}
 use borrow.Author.Needs.{needs}
+use lib.IntN.{ℤ}
 use lib.ListN.{drop}
 use Rattle.bits.specs.Parsed.{_>>=_}
 use Rattle.standard.specs.Numbers.{rowWidth, objectLimit, startLength}
 use Rattle.standard.specs.Meaning.{startRows}
-use Rattle.standard.specs.Tables.{rowsOf, stateOf}
+use Rattle.standard.specs.Tables.{rowsNumbers, rowsOf, stateOf}
+use Rattle.standard.specs.Calls.{over}
 use Rattle.objects.specs.Walk.{kindsIn}
+use Rattle.objects.proofs.Turns.{kinds-length}
 use Rattle.oamd.specs.Whole.{bodyIn}
-use Rattle.oamd.proofs.Starting.{kinds-count, starts-back, starts-rest}
+use Rattle.oamd.proofs.Starting.{starts-back, starts-rest}
 use Rattle.oamd.proofs.Telling.{untold}
 use Rattle.oamd.proofs.payload.parse_body.Statement.{statement}
 use Rattle.oamd.proofs.payload.parse_body.Tie as tie
@@ -17,19 +21,24 @@ use Rattle.oamd.proofs.payload.parse_body.Tie as tie
 abbrev entry : tie.After-write-starts → tie.Start
 entry c = c .before .before .before .before .before .before .before .before .before .before .before .before .before
 
+abbrev written : tie.After-write-starts → List ℤ
+written c =
+    let a = entry c .args in
+    over (rowsNumbers (startRows (stateOf (a .retained .now)) (kindsIn (a .object-count) (a .kinds .now)))) (a .start .now)
+
 -- the start rows are written, and nothing behind them
 begun : (c : tie.After-write-starts) →
     let a = entry c .args in
     rowsOf (a .object-count) (c .write-starts .last .1 .1 .1 .0) ≡ startRows (stateOf (a .retained .now)) (kindsIn (a .object-count) (a .kinds .now))
 begun c =
     let a = entry c .args in
-    ap (rowsOf (a .object-count)) (c .write-starts .ensures) ∙ starts-back (a .object-count) (a .kinds .now) (entry c .pre .1 .0 .there) (a .retained .now) (a .start .now)
+    ap (rowsOf (a .object-count)) {y = written c} (c .write-starts .ensures) ∙ starts-back (a .object-count) (a .kinds .now) (entry c .pre .1 .0 .there) (a .retained .now) (a .start .now)
 
 rest : (c : tie.After-write-starts) → drop startLength (c .write-starts .last .1 .1 .1 .0) ≡ drop startLength (entry c .args .start .now)
 rest c =
     let a = entry c .args in
     let p = entry c .pre .1 in
-    ap (drop startLength) (c .write-starts .ensures) ∙ starts-rest (a .object-count) (a .kinds .now) (p .0 .there) (a .retained .now) (a .start .now) (p .0 .few) (p .1 .1 .forStart)
+    ap (drop startLength) {y = written c} (c .write-starts .ensures) ∙ starts-rest (a .object-count) (a .kinds .now) (p .0 .there) (a .retained .now) (a .start .now) (p .0 .few) (p .1 .1 .forStart)
 
 parse-elements-requires : tie.Need-parse-elements-requires
 unfolding rowWidth objectLimit startLength
@@ -73,7 +82,7 @@ returns-3 c =
         ← (k .before .before .read-element-count .ensures),
         k .element-count .given .1,
         rw (begun w) at (e .parse-elements .ensures .same),
-        kinds-count (entry w .args .object-count) (entry w .args .kinds .now) (entry w .pre .1 .0 .there),
+        kinds-length (entry w .args .object-count) (entry w .args .kinds .now) (entry w .pre .1 .0 .there),
         ← (w .write-starts .ensures),
       )
           (c .end-payload .ensures _ _ _);

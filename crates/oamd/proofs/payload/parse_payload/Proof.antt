@@ -1,14 +1,15 @@
 -- `oamd::payload::parse_payload` meets its contract.
-use Prim.Native.Nat.{_≤_, _<_}
 use native.Mathlib.Omega.{arith}
 use borrow.Author.Needs.{needs}
 use Rattle.bits.specs.Parsed.{_>>=_, _>>_}
 use Rattle.bits.specs.Say.{said}
 use Rattle.bits.proofs.Laws.{gives}
 use Rattle.standard.specs.Numbers.{payloadLimit, objectLimit}
-use Rattle.assignment.proofs.Laws.{object-count-le}
+use Rattle.standard.specs.Assignment.{assignment}
+use Rattle.standard.proofs.Counts.{Counted, count-form}
+use Rattle.assignment.proofs.Laws.{none-listed}
 use Rattle.oamd.specs.Whole.{payloadIn}
-use Rattle.oamd.proofs.Telling.{kinds-read, kinds-refused, untold}
+use Rattle.oamd.proofs.Telling.{kinds-read, untold}
 use Rattle.oamd.proofs.payload.parse_payload.Statement.{statement}
 use Rattle.oamd.proofs.payload.parse_payload.Tie as tie
 
@@ -37,7 +38,7 @@ returns-3 c =
       v .count-at .given .1,
       ← (n .before .before .read-object-count .ensures),
       n .count .given .1,
-      kinds-refused (rw (c .before .refusal3 .given .1) at (k .parse-program-assignment .ensures)),
+      none-listed (rw (c .before .refusal3 .given .1) at (k .parse-program-assignment .ensures)),
     ))
 
 returns-4 : tie.Need-returns-4
@@ -48,20 +49,24 @@ returns-4 c =
     let k = x .before .before .before in
     let n = k .before .before .before in
     let v = n .before .before .before .before in
+    let l = v .before .before .before in
+    let start = l .before .before .before in
+    let read = assignment (n .count .given .0 .0) (start .args .payload .now) (l .bits .result .0) (n .count .given .0 .1 .0 .0) in
     rw (
       ← (v .before .before .before .bits .ensures),
       ← (v .before .before .read-version .ensures),
       v .count-at .given .1,
       ← (n .before .before .read-object-count .ensures),
       n .count .given .1,
-      kinds-read (rw (x .next .given .1) at (k .parse-program-assignment .ensures)),
+      kinds-read {m = read} (rw (x .next .given .1) at (k .parse-program-assignment .ensures)),
     )
     (b .parse-body .ensures)
 
-counted : (c : tie.After-count) → (0 < c .count .given .0 .0) × (c .count .given .0 .0 ≤ 128)
-counted c = gives said object-count-le (c .before .before .read-object-count .ensures) (c .count .given .1)
+counted : (c : tie.After-count) → Counted (c .count .given .0 .0)
+counted c = gives said count-form (c .before .before .read-object-count .ensures) (c .count .given .1)
 
 parse-program-assignment-requires : tie.Need-parse-program-assignment-requires
+unfolding objectLimit
 parse-program-assignment-requires c κs = omega (arith, counted (c .before .before))
 
 parse-body-requires : tie.Need-parse-body-requires

@@ -11,8 +11,9 @@ use Rattle.standard.specs.Rows.{noRow, is}
 use Rattle.standard.specs.Tables.{countOf, stateOf}
 use Rattle.rows.proofs.Tests.{back}
 use Rattle.objects.specs.Walk.{kindsIn}
+use Rattle.objects.proofs.Turns.{kinds-length}
 use Rattle.oamd.proofs.Matching.{Matching, unlike-lengths, match-none, match-kind, match-not, match-all}
-use Rattle.oamd.proofs.Starting.{rows-count, kinds-count, kind-tested}
+use Rattle.oamd.proofs.Starting.{rows-count, kind-tested}
 use Rattle.oamd.proofs.starts.same_kinds.Statement.{statement}
 use Rattle.oamd.proofs.starts.same_kinds.Tie as tie
 
@@ -23,7 +24,7 @@ abbrev μ-loop : tie.MeasureT-loop
 μ-loop retained kinds object-count object₀ object = object-count - object
 
 kinds : (c : tie.Start Inv-loop μ-loop) → length (kindsIn (c .args .object-count) (c .args .kinds .now)) ≡ c .args .object-count
-kinds c = kinds-count (c .args .object-count) (c .args .kinds .now) (c .pre .1 .there)
+kinds c = kinds-length (c .args .object-count) (c .args .kinds .now) (c .pre .1 .there)
 
 -- as many rows are retained as there are kinds
 counted : (c : tie.Else1 Inv-loop μ-loop) → countOf (c .before .before .before .args .retained .now) ≡ c .before .before .before .args .object-count
@@ -49,7 +50,7 @@ tested c =
     let start = l .before .before .before .before in
     let a = start .args in
     kind-tested (a .object-count) (a .kinds .now) (start .pre .1 .there) (a .retained .now) (counted (l .before)) (l .loop .object) (k .before .loop-test .taken)
-    ∙ sym (rw (back (k .kind-at .result) (k .kind-at .ok), k .kind-at .ensures) at (c .is-kind .ensures))
+    ∙ sym (rw (back {z = k .kind-at .result} (k .kind-at .ok), k .kind-at .ensures) at (c .is-kind .ensures))
 
 returns : tie.Need-returns Inv-loop μ-loop
 returns c =

@@ -12,12 +12,12 @@ returns : tie.Need-returns
 unfolding rowWidth retainedHead
 returns c =
     let d = c .before .before .before in
-    rw (c .held-row .ensures, back (getD (d .before .args .retained .now) 1 (pos 0)) (d .doubt .given), c .before .row-at .ensures, c .before .before .if1 .taken)
+    rw (c .held-row .ensures, back {z = getD (d .before .args .retained .now) 1 (pos 0)} (d .doubt .given), c .before .row-at .ensures, c .before .before .if1 .taken)
 
 returns-2 : tie.Need-returns-2
 returns-2 c =
     let d = c .before .before in
-    rw (c .default-row .ensures, back (getD (d .before .args .retained .now) 1 (pos 0)) (d .doubt .given), c .before .if1 .left)
+    rw (c .default-row .ensures, back {z = getD (d .before .args .retained .now) 1 (pos 0)} (d .doubt .given), c .before .if1 .left)
 
 pub start-row-spec : {M : Type 1} → statement M
 unfolding rowWidth objectLimit retainedHead retainedLength

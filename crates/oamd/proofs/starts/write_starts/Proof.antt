@@ -1,6 +1,6 @@
 -- Each turn writes the next start row.
 use Prim.Native.Nat.{_*_, _-_, _≤_}
-use mathlib.Core.Path.{_≡_, sym, _∙_}
+use mathlib.Core.Path.{_≡_, sym}
 use native.Mathlib.Omega.{arith}
 use borrow.Author.Needs.{needs}
 use lib.ListN.{length, getD}
@@ -48,8 +48,7 @@ found : (c : tie.After-start-row Inv-loop μ-loop) →
 found c =
     let l = c .before .before .before in
     let start = l .before .before .before in
-    c .start-row .ensures
-    ∙ rw (l .before .same-kinds .ensures) (sym (start-found (start .args .object-count) (start .args .kinds .now) (start .pre .1 .0 .there) (start .args .retained .now) (l .loop .object) (c .before .before .loop-test .taken)))
+    rw (c .start-row .ensures, l .before .same-kinds .ensures) (sym (start-found (start .args .object-count) (start .args .kinds .now) (start .pre .1 .0 .there) (start .args .retained .now) (l .loop .object) (c .before .before .loop-test .taken)))
 
 loop-again : tie.Need-loop-again Inv-loop μ-loop
 unfolding rowWidth

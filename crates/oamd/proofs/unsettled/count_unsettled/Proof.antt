@@ -18,7 +18,7 @@ loop-again : tie.Need-loop-again Inv-loop μ-loop
 unfolding rowWidth
 loop-again c =
     let i = c .before .before in
-    rw (c .one-if-unsettled .ensures .0, back (c .before .mark-at .result) (c .before .mark-at .ok), c .before .mark-at .ensures) (count-row (i .before .loop .inv) (i .loop-test .taken))
+    rw (c .one-if-unsettled .ensures .0, back {z = c .before .mark-at .result} (c .before .mark-at .ok), c .before .mark-at .ensures) (count-row (i .before .loop .inv) (i .loop-test .taken))
 
 pub count-unsettled-spec : {M : Type 1} → statement M
 unfolding rowWidth objectLimit

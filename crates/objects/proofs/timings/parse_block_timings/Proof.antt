@@ -3,12 +3,14 @@ use Prim.Native.Nat.{_+_, _<_}
 use mathlib.Core.Path.{_≡_}
 use native.Mathlib.Omega.{arith}
 use borrow.Author.Needs.{needs}
-use Rattle.bits.specs.Parsed.{got, andThen, mapParsed}
+use Rattle.bits.specs.Parsed.{got, andThen, mapParsed, times}
 use Rattle.bits.specs.Say.{said}
 use Rattle.bits.specs.declared.Passed.{Passed}
 use Rattle.bits.proofs.Laws.{gives, read-lt}
 use Rattle.standard.specs.Numbers.{timingsLength}
-use Rattle.standard.specs.Syntax.{reserved}
+use Rattle.standard.specs.Syntax.{timing, reserved}
+use Rattle.standard.specs.Tables.{timingNumbers}
+use Rattle.standard.specs.Calls.{over}
 use Rattle.objects.specs.Fills.{Filling, leaving}
 use Rattle.objects.specs.Element.{blockTimings, timedBy}
 use Rattle.objects.proofs.Filling.{begin, to, on}
@@ -47,7 +49,10 @@ unfolding timingsLength
 at-timings c e =
     let h = c .before .before in
     let o = h .before .before .before .before .before in
-    on (leaving _) _ (begin (rw (head-read, ← (o .before .before .read-sample-offset .ensures), o .offset .given .1, ← (h .before .before .before .read .ensures), h .before .coded .given .1))) (c .parse-timings .ensures) (omega (arith, few h)) e
+    let a = o .before .before .before .before .before .args in
+    let n = h .before .coded .given .0 in
+    let stored = mapParsed (λ ts. over (timingNumbers ts) (a .timings .now)) (times (n .0 + 1) (timing (o .offset .given .0 .0)) (a .payload .now) (a .limit .0) (n .1 .0 .0)) in
+    on {m = stored} (leaving _) _ (begin (rw (head-read, ← (o .before .before .read-sample-offset .ensures), o .offset .given .1, ← (h .before .before .before .read .ensures), h .before .coded .given .1))) (c .parse-timings .ensures) (omega (arith, few h)) e
 
 cut-timings : tie.Need-returns-3
 cut-timings c = at-timings (c .before .before .before .before .before) (c .before .refusal .given .1)

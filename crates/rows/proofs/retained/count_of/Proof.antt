@@ -15,13 +15,13 @@ unfolding objectLimit
 cast-result c =
     let count = getD (c .before .args .table .now) 0 (pos 0) in
     let n = between-nat objectLimit count (c .before .pre .inRange) in
-    rw (back count (c .count .given)) (n .0, record { fits = omega arith })
+    rw (back {z = count} (c .count .given)) (n .0, record { fits = omega arith })
 
 returns : tie.Need-returns
 unfolding countOf
 returns c =
     let count = getD (c .before .args .table .now) 0 (pos 0) in
-    rw (back count (c .count .given)) (record { same = refl; few = between-nat objectLimit count (c .before .pre .inRange) .1 })
+    rw (back {z = count} (c .count .given)) (record { same = refl; few = between-nat objectLimit count (c .before .pre .inRange) .1 })
 
 pub count-of-spec : {M : Type 1} → statement M
 count-of-spec = tie.close (tie.spec (λ c. search needs) cast-result returns)

@@ -8,7 +8,8 @@ use mir.Syntax.{w16}
 use mir.Val.{ofZ}
 use Rattle.standard.specs.Rows.{isSilent}
 use Rattle.standard.specs.Meaning.{copiedGain}
-use Rattle.update.proofs.Numbers.{back, same}
+use Rattle.rows.proofs.Tests.{back}
+use Rattle.update.proofs.Numbers.{same}
 use Rattle.update.proofs.basic.copied_gain.Statement.{statement}
 use Rattle.update.proofs.basic.copied_gain.Tie as tie
 

@@ -7,8 +7,9 @@ use lib.IntN.{subℕ}
 use mir.Syntax.{w16}
 use mir.Val.{SFits}
 use mir.Facts.{toZ-ofZ}
+use Rattle.bits.proofs.Signs.{minus}
 use Rattle.standard.specs.Updates.{decibels}
-use Rattle.update.proofs.Numbers.{up, minus, mag-minus}
+use Rattle.update.proofs.Numbers.{up, mag-minus}
 use Rattle.update.proofs.basic.gain_db.Statement.{statement}
 use Rattle.update.proofs.basic.gain_db.Tie as tie
 

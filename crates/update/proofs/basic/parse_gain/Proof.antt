@@ -10,8 +10,9 @@ use Rattle.bits.specs.Say.{said}
 use Rattle.bits.proofs.Laws.{gives, read-lt}
 use Rattle.standard.specs.Meaning.{gainSaid}
 use Rattle.standard.specs.Updates.{silence, gainWord}
+use Rattle.rows.proofs.Tests.{back}
 use Rattle.update.specs.Passes.{gainPass}
-use Rattle.update.proofs.Numbers.{back, unset, set}
+use Rattle.update.proofs.Numbers.{unset, set}
 use Rattle.update.proofs.basic.parse_gain.Statement.{statement}
 use Rattle.update.proofs.basic.parse_gain.Tie as tie
 

@@ -5,8 +5,8 @@ use Rattle.bits.specs.Say.{said}
 use Rattle.bits.proofs.Laws.{gives, read-lt}
 use Rattle.standard.specs.Meaning.{positionSaid}
 use Rattle.standard.specs.Updates.{absolutely}
+use Rattle.rows.proofs.Tests.{back}
 use Rattle.update.specs.Passes.{placePass}
-use Rattle.update.proofs.Numbers.{back}
 use Rattle.update.proofs.position.parse_absolute.Statement.{statement}
 use Rattle.update.proofs.position.parse_absolute.Tie as tie
 

@@ -3,8 +3,8 @@ use borrow.Author.Needs.{needs}
 use Rattle.bits.specs.Parsed.{_>>=_, pure}
 use Rattle.standard.specs.Meaning.{positionSaid}
 use Rattle.standard.specs.Updates.{differential}
+use Rattle.rows.proofs.Tests.{back}
 use Rattle.update.specs.Passes.{placePass}
-use Rattle.update.proofs.Numbers.{back}
 use Rattle.update.proofs.position.parse_differential.Statement.{statement}
 use Rattle.update.proofs.position.parse_differential.Tie as tie
 

@@ -1,7 +1,7 @@
 -- `update::position::stepped` meets its contract.
 use borrow.Author.Needs.{needs}
 use Rattle.standard.specs.Meaning.{stepped}
-use Rattle.update.proofs.Numbers.{back}
+use Rattle.rows.proofs.Tests.{back}
 use Rattle.update.proofs.position.stepped.Statement.{statement}
 use Rattle.update.proofs.position.stepped.Tie as tie
 

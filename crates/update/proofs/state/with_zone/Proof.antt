@@ -1,7 +1,8 @@
 -- `update::state::with_zone` meets its contract.
 use native.Mathlib.Omega.{arith}
 use borrow.Author.Needs.{needs}
-use Rattle.update.proofs.Numbers.{up, back}
+use Rattle.rows.proofs.Tests.{back}
+use Rattle.update.proofs.Numbers.{up}
 use Rattle.update.proofs.state.with_zone.Statement.{statement}
 use Rattle.update.proofs.state.with_zone.Tie as tie
 

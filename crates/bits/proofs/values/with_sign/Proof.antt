@@ -1,25 +1,21 @@
--- `bits::with_sign` meets its contract.
-use Prim.Native.Nat.{ℕ, zero, suc, _-_, _^_, _≤_, _<_}
-use mathlib.Core.Path.{_≡_, refl}
+-- `bits::values::with_sign` meets its contract.
+use Prim.Native.Nat.{ℕ, _-_, _^_, _≤_, _<_}
+use mathlib.Core.Path.{_≡_}
 use native.Mathlib.Omega.{arith}
 use borrow.Author.Needs.{needs}
 use borrow.Author.Tests.{lt-ltb, le-ltb}
-use lib.IntN.{pos, subℕ, _-ℤ_}
+use lib.IntN.{_-ℤ_}
 use lib.Pow.{pow-mono}
 use mir.Syntax.{w16}
 use mir.Val.{SFits, toZ}
 use mir.Facts.{toZ-ofZ, toZ-pos}
 use Rattle.bits.specs.Reads.{signed}
-use Rattle.bits.proofs.Signs.{signed-mag}
-use Rattle.bits.proofs.with_sign.Statement.{statement}
-use Rattle.bits.proofs.with_sign.Tie as tie
+use Rattle.bits.proofs.Signs.{minus, signed-mag}
+use Rattle.bits.proofs.values.with_sign.Statement.{statement}
+use Rattle.bits.proofs.values.with_sign.Tie as tie
 
 power-le : (w : ℕ) → w < 15 → 2 ^ w ≤ 16384
 power-le w h = pow-mono {j = 14} (omega arith)
-
-minus : (a b : ℕ) → a < b → pos a -ℤ pos b ≡ subℕ a b
-minus a zero h = absurd (omega arith)
-minus a (suc b) h = refl
 
 difference : (c : tie.After-two-to2) →
     let a = c .before .before .before .args in
@@ -29,7 +25,7 @@ difference c =
     let a = c .before .before .before .args in
     let l = power-le (a .width) (omega arith) in
     rw (c .two-to2 .ensures, toZ-pos w16 {n = a .value} (omega arith), toZ-pos w16 {n = 2 ^ a .width} (omega arith), le-ltb (a .value) (2 ^ (a .width - 1)) (omega arith))
-    (minus (a .value) (2 ^ a .width) (omega arith))
+    (minus (a .value) (2 ^ a .width))
 
 fits : (c : tie.After-two-to2) →
     let a = c .before .before .before .args in

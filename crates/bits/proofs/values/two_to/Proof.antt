@@ -1,10 +1,10 @@
--- `bits::two_to` meets its contract.
+-- `bits::values::two_to` meets its contract.
 use borrow.Author.Needs.{needs}
 use mathlib.Core.Path.{_∙_}
 use native.Mathlib.Omega.{arith}
 use lib.Pow.{shl-exact}
-use Rattle.bits.proofs.two_to.Statement.{statement}
-use Rattle.bits.proofs.two_to.Tie as tie
+use Rattle.bits.proofs.values.two_to.Statement.{statement}
+use Rattle.bits.proofs.values.two_to.Tie as tie
 
 pub two-to-spec : {M : Type 1} → statement M
 two-to-spec =

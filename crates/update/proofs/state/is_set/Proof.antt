@@ -1,9 +1,0 @@
--- `update::state::is_set` meets its contract.
-use borrow.Author.Needs.{needs}
-use Rattle.bits.specs.Bits.{isSet}
-use Rattle.update.proofs.state.is_set.Statement.{statement}
-use Rattle.update.proofs.state.is_set.Tie as tie
-
-pub is-set-spec : {M : Type 1} → statement M
-unfolding isSet
-is-set-spec = tie.close (tie.spec (λ c. search needs) (λ c. search needs))

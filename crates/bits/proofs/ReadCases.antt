@@ -57,7 +57,7 @@ two-groups : variableBits 4 3 9 (0x38 ∷ 0x80 ∷ []) 16 0 ≡ got 65 10
 unfolding variableBits laterGroups _>>=_ here flag read mapP pure refuse refusedAs field bitAt
 two-groups = refl
 
--- a later group cut short is Limit where the size begins
+-- a group cut after the first is Limit, where the size begins
 cut-later-group : variableBits 4 3 9 (0x38 ∷ []) 8 0 ≡ refused (limit 9 0)
 unfolding variableBits laterGroups _>>=_ here flag read mapP pure refuse refusedAs field bitAt
 cut-later-group = refl

@@ -112,7 +112,7 @@ fn parse_body(
     }
 }
 
-// A missing object element is found after the padding.
+// The padding comes before a missing object element.
 fn end_payload(payload: &[u8], limit: BitPlace, object_count: u32, elements: Elements) -> Payload
     ensures { λ r. ⌜ ((s b : List ℤ) (t : List ℕ) → outcome (andThen (framed (saidElements elements) b t) (λ f at. finishIn «object_count» s f (now (payload .entry)) (limit .0) at)) ≡ saidPayload r s b t) ⌝ }
 {

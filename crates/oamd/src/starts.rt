@@ -1,4 +1,4 @@
-// The start rows: the retained rows if the kinds equal the retained kinds, else default rows.
+// The start rows: the retained ones where the kinds are the same, default ones where they are not.
 ghost use mathlib.Core.Path.{_≡_};
 ghost use mathlib.Core.Bool.{cond};
 ghost use Prim.Native.Nat.{_+_, _*_, _<_, _≤_};

@@ -82,7 +82,7 @@ fn parse_object(
     Passed::To(place)
 }
 
-// The preceding object's gain in this block; 0 dB before the first object.
+// The gain of the object before, in the same block; 0 dB before the first object.
 fn gain_before(blocks: &[i16], object_count: usize, block: usize, object: usize) -> i16
     requires { ⌜ place «object_count» block object ≤ length (now blocks) ⌝ }
     ensures { λ r. ⌜ r ≡ gainBefore «object_count» block object (now (blocks .entry)) ⌝ }

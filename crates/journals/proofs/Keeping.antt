@@ -13,7 +13,7 @@ use lib.Seq.{take-all, length-take-le}
 use Rattle.rows.specs.Places.{written}
 use Rattle.rows.proofs.Written.{getD-other}
 use Rattle.rows.proofs.Storing.{Storing, copy-turn, copied}
-use Rattle.journals.specs.Buffers.{part, Kept, hasRoom, Appended}
+use Rattle.journals.specs.Buffers.{part, Kept, Appended}
 use Rattle.journals.specs.Texts.{Puts}
 
 pub part-length : (l : List ℕ) (from to : ℕ) → to ≤ length l → length (part l from to) ≡ to - from

@@ -1,5 +1,4 @@
 -- The end is cut to the list's.
-use mathlib.Core.Path.{_∙_, ap, sym}
 use native.Mathlib.Omega.{arith}
 use borrow.Author.Needs.{needs}
 use Rattle.journals.proofs.Keeping.{cut-short, no-part}

@@ -1,11 +1,8 @@
 -- The digits before the last are those of a tenth of the number, which is the measure.
 use Prim.Native.Nat.{ℕ, _+_, _<_}
-use mathlib.Core.Path.{ap, _∙_}
 use borrow.Fn.Kinds.{In}
 use borrow.Fn.PlainCycle.{Measures, is, falls, and}
 use native.Mathlib.Omega.{arith}
-use native.Mathlib.Nat.{mod-lt}
-use lib.ListN.{length, length-set}
 use Rattle.journals.proofs.Putting.{puts-one, puts-more, puts-within, as-long}
 use Rattle.journals.proofs.Decimal.{one-digit, more-digits, one-more, tenth-less, twenty}
 use Rattle.journals.proofs.texts.put_decimal.Reads as put-decimal

@@ -12,9 +12,9 @@ import shutil
 import subprocess
 import tempfile
 
+from crate_list import TOP, crates
 from rust_source import stop
 
-TOP = pathlib.Path(__file__).resolve().parent.parent
 NAME = "rack"
 WRITTEN_BY_RT = TOP / "target" / "staticlib" / f"lib{NAME}.a"
 
@@ -42,10 +42,8 @@ def kit():
 
 def libraries(own):
     """How the build is told of what the crate rests on, by its line of crates.txt."""
-    lines = (TOP / "crates.txt").read_text(encoding="utf-8").splitlines()
-    needed = next(line for line in lines if line.startswith(f"{NAME}:")).partition(":")[2].split()
     words = ["--extern", f"std={own / 'rlib' / 'std.rlib'}"]
-    for name in needed:
+    for name in crates()[NAME]:
         ours = TOP / "target" / "rlib" / f"{name}.rlib"
         words += ["--extern", f"{name}={ours if ours.is_dir() else own / 'rlib' / f'{name}.rlib'}"]
     return words + ["-L", f"dependency={TOP / 'target' / 'rlib'}", "-L", f"dependency={own / 'rlib'}"]

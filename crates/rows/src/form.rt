@@ -8,12 +8,12 @@ ghost use Rattle.rows.specs.Say.{positionSaid, zoneSaid, sizeSaid, pictu
 use crate::numbers::OBJECT_LIMIT;
 use crate::numbers::RETAINED_HEAD;
 use crate::numbers::ROW_WIDTH;
+use crate::numbers::SILENCE;
 use crate::retained::count_of;
 use crate::row::DYNAMIC;
 use crate::row::Picture;
 use crate::row::Position;
 use crate::row::Row;
-use crate::row::SILENCE;
 use crate::row::Size;
 use crate::row::Zone;
 use crate::table::row_at;

@@ -2,14 +2,19 @@
 ghost use mathlib.Core.Path.{_≡_};
 ghost use lib.ListN.{length};
 ghost use Rattle.standard.specs.Numbers.{rowWidth};
+ghost use Rattle.standard.specs.Rows.{defaultPicture};
 ghost use Rattle.standard.specs.Tables.{rowNumbers, rowOf};
 ghost use Rattle.rows.specs.Say.{positionSaid, zoneSaid, sizeSaid, pictureSaid, rowSaid};
+use crate::numbers::MIDDLE;
 use crate::numbers::ROW_WIDTH;
 
-// The gain of minus infinity.
-pub const SILENCE: i16 = -128;
+// The kinds. All but the last are fixed.
+pub const LFE: i16 = 0;
 
-// The one kind that is not fixed.
+pub const BED: i16 = 1;
+
+pub const ISF: i16 = 2;
+
 pub const DYNAMIC: i16 = 3;
 
 pub struct Position {
@@ -44,6 +49,29 @@ pub struct Row {
     pub priority: i16,
     pub picture: Picture,
     pub mark: i16,
+}
+
+pub fn default_picture() -> Picture
+    ensures { λ r. ⌜ pictureSaid r ≡ defaultPicture ⌝ }
+{
+    Picture {
+        position: Position {
+            x: MIDDLE,
+            y: MIDDLE,
+            z: 0,
+        },
+        zone: Zone {
+            zone: 0,
+            elevation: 1,
+        },
+        size: Size {
+            width: 0,
+            depth: 0,
+            height: 0,
+        },
+        screen: 0,
+        lock: 0,
+    }
 }
 
 fn position_of(part: &[i16]) -> Position

@@ -4,8 +4,8 @@ ghost use Rattle.standard.specs.Shown.{shownGain, shown};
 ghost use Rattle.rows.specs.Say.{rowSaid};
 ghost use Rattle.shown.specs.Say.{gainSaid, shownSaid};
 ghost use Rattle.shown.specs.Promises.{Stands};
+use rows::numbers::SILENCE;
 use rows::row::Row;
-use rows::row::SILENCE;
 
 const LFE: i16 = 0;
 

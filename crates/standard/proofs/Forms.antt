@@ -9,7 +9,7 @@ use lib.Signed.{leZ, ltZ, ltZ-no, ≤ℤ-refl}
 use Rattle.bits.specs.Parsed.{Placed}
 use Rattle.bits.proofs.Always.{All}
 use Rattle.standard.specs.Tree.{Kind, lfe, bed, isf, dynamic, kindCode, isDynamic, Position, GainWord, level, copied, PositionWord, absolute, moved, Render, default, kept, given, Update, inactive, active}
-use Rattle.standard.specs.Updates.{silence}
+use Rattle.standard.specs.Numbers.{silence}
 use Rattle.standard.specs.Rows.{Row, Picture, defaultPicture, is, isSilent}
 use Rattle.standard.specs.Marks.{rowMark}
 use Rattle.standard.specs.Meaning.{orBefore, copiedGain, gainSaid, newGain, clamp, stepped, positionSaid, newPosition, newPicture, rowPicture, updated}
@@ -40,7 +40,7 @@ unfolding gainForm
 zero-form = refl
 
 silence-form : gainForm silence ≡ true
-unfolding gainForm silence
+unfolding gainForm
 silence-form = refl
 
 gain-said : (g : ℤ) (w : GainWord) → gainForm g ≡ true → GainOk w → gainForm (gainSaid g w) ≡ true
@@ -190,7 +190,7 @@ row-shown r h = and-left (shownForm r) _ h
 
 -- an update puts a row into form, of a row to be shown
 pub row-after : (k : Kind) (g : ℤ) (u : Update) (r : Row) → r .kind ≡ pos (kindCode k) → gainForm g ≡ true → UpdateOk u → ShownOk r → RowOk (updated k g u r)
-unfolding rowForm updated activeForm fixedForm silence
+unfolding rowForm updated activeForm fixedForm
 row-after k g (inactive at) r e hg hu h =
     let f = shown-facts r h in
     both (shownForm (updated k g (inactive at) r)) _

@@ -14,7 +14,7 @@ use Rattle.bits.specs.Parsed.{Placed}
 use Rattle.bits.proofs.Always.{Ok, All, Always, IfSome, OfWord, bind, after, next, mapped, mapped-such, choose, given, none-given, repeated, required, if-some, at-place}
 use Rattle.bits.proofs.Fields.{read-lt}
 use Rattle.standard.specs.Tree.{Kind, isDynamic, Zone, Size, GainWord, level, copied, PositionWord, absolute, moved, Basic, Groups, Render, default, kept, Update, inactive, active, Object}
-use Rattle.standard.specs.Updates.{decibels, silence, gainWord, priorityWord, basic, differential, absolutely, positionWord, bit, zoneWord, sized, sizeWord, screenWord, groups, render, activeUpdate, update, object}
+use Rattle.standard.specs.Updates.{decibels, gainWord, priorityWord, basic, differential, absolutely, positionWord, bit, zoneWord, sized, sizeWord, screenWord, groups, render, activeUpdate, update, object}
 use Rattle.standard.specs.Meaning.{taken}
 use Rattle.standard.specs.Tables.{between, isFlag, gainForm, positionForm, positionTests, sizeForm, zoneForm}
 use Rattle.standard.proofs.Small.{and-left, and-right, both}
@@ -53,7 +53,7 @@ unfolding gainForm decibels allBelow
 decibels-form w h = below (λ n. gainForm (decibels n)) 64 refl w h
 
 gain-ok : Always GainOk gainWord
-unfolding gainWord gainForm silence
+unfolding gainWord gainForm
 gain-ok =
     after _ _ λ code.
     choose (eqb code 0) (given _ refl)
@@ -71,7 +71,7 @@ pub record BasicOk (b : Basic) : Type 0 where
   pub priority : IfSaid PriorityOk (b .priority)
 
 basic-ok : (at status : ℕ) → Always BasicOk (basic at status)
-unfolding basic silence gainForm
+unfolding basic gainForm
 basic-ok at status =
     choose (eqb status 0) (given _ (record { gain = refl; priority = refl }))
     (choose (eqb status 2) (given _ (record { gain = tt; priority = tt }))

@@ -4,7 +4,7 @@ use Rattle.bits.specs.Parsed.{_>>=_, _>>_, mapP, pure, refuse, within, refusedA
 use Rattle.bits.specs.Reads.{read, flag, skip, zeros, padding, signed, readSigned, laterGroups, variableBits}
 use Rattle.standard.specs.Numbers.{rowWidth, objectLimit, blockLimit, retainedHead, retainedLength, startLength, blocksLength, timingsLength, payloadLimit, elementLimit, frameLength}
 use Rattle.standard.specs.Assignment.{extended, version, objectCount, onlyDynamic, chosen, standardBeds, nonstandardBeds, oneBed, joined, beds, isfCounts, isfs, dynamics, skipBytes, contents, assignment}
-use Rattle.standard.specs.Updates.{silence, decibels, gainWord, priorityWord, basic, differential, absolutely, distance, positionWord, bit, zoneWord, sized, sizeWord, screenWord, groups, render, status, activeUpdate, tableData, update, object}
+use Rattle.standard.specs.Updates.{decibels, gainWord, priorityWord, basic, differential, absolutely, distance, positionWord, bit, zoneWord, sized, sizeWord, screenWord, groups, render, status, activeUpdate, tableData, update, object}
 use Rattle.standard.specs.Syntax.{sampleOffsets, sampleOffset, rampDurations, ramp, timing, reserved, objectElement, trim, elementCount, elementSize, alternate, once, content, element, elements, present, body, payload, syntax}
 use Rattle.standard.specs.Rows.{fresh, defaultPicture}
 use Rattle.standard.specs.Marks.{marked, settles, settlesAll, newMark, rowMark}
@@ -18,5 +18,5 @@ use Rattle.standard.specs.Events.{first, second, run, firstCall, secondC
 use Rattle.standard.specs.Journal.{payloadStep, step, rest, journalFrom, journal, replyTo, freshTables, digitsOf, decimal, spaced, answerText, replyText, line, lastLine, linesFrom, printed}
 
 unfoldable pub computed : Unit {0}
-unfolding bitAt field isSet _>>=_ _>>_ mapP pure refuse within refusedAs times optional each here theEnd goTo require placed read flag skip zeros padding signed readSigned laterGroups variableBits rowWidth objectLimit blockLimit retainedHead retainedLength startLength blocksLength timingsLength payloadLimit elementLimit frameLength extended version objectCount onlyDynamic chosen standardBeds nonstandardBeds oneBed joined beds isfCounts isfs dynamics skipBytes contents assignment silence decibels gainWord priorityWord basic differential absolutely distance positionWord bit zoneWord sized sizeWord screenWord groups render status activeUpdate tableData update object sampleOffsets sampleOffset rampDurations ramp timing reserved objectElement trim elementCount elementSize alternate once content element elements present body payload syntax fresh defaultPicture marked settles settlesAll newMark rowMark heldRow defaultRow sameKinds startRows copiedGain gainSaid newGain clamp stepped positionSaid newPosition newPicture rowPicture updated objectRows allRows frameRows lastRow lastRows retain unsettledCount taken retainIf decoded gapped rowNumbers rowOf rowsNumbers rowsOf byBlock timingNumbers timingsOf countOf stateOf stateNumbers gainForm positionTests positionForm zoneForm sizeForm pictureTests pictureForm markForm isDefault activeForm fixedForm shownTests shownForm rowForm allForm inForm rising apart timingTest still walk choice fraction shownGain shown nothingShown hasRoom accept decline settle decode reset gap timingCall rampCall rowPart rowNumber partCall shownCall first second run firstCall secondCall payloadStep step rest journalFrom journal replyTo freshTables digitsOf decimal spaced answerText replyText line lastLine linesFrom printed
+unfolding bitAt field isSet _>>=_ _>>_ mapP pure refuse within refusedAs times optional each here theEnd goTo require placed read flag skip zeros padding signed readSigned laterGroups variableBits rowWidth objectLimit blockLimit retainedHead retainedLength startLength blocksLength timingsLength payloadLimit elementLimit frameLength extended version objectCount onlyDynamic chosen standardBeds nonstandardBeds oneBed joined beds isfCounts isfs dynamics skipBytes contents assignment decibels gainWord priorityWord basic differential absolutely distance positionWord bit zoneWord sized sizeWord screenWord groups render status activeUpdate tableData update object sampleOffsets sampleOffset rampDurations ramp timing reserved objectElement trim elementCount elementSize alternate once content element elements present body payload syntax fresh defaultPicture marked settles settlesAll newMark rowMark heldRow defaultRow sameKinds startRows copiedGain gainSaid newGain clamp stepped positionSaid newPosition newPicture rowPicture updated objectRows allRows frameRows lastRow lastRows retain unsettledCount taken retainIf decoded gapped rowNumbers rowOf rowsNumbers rowsOf byBlock timingNumbers timingsOf countOf stateOf stateNumbers gainForm positionTests positionForm zoneForm sizeForm pictureTests pictureForm markForm isDefault activeForm fixedForm shownTests shownForm rowForm allForm inForm rising apart timingTest still walk choice fraction shownGain shown nothingShown hasRoom accept decline settle decode reset gap timingCall rampCall rowPart rowNumber partCall shownCall first second run firstCall secondCall payloadStep step rest journalFrom journal replyTo freshTables digitsOf decimal spaced answerText replyText line lastLine linesFrom printed
 computed = tt

@@ -8,9 +8,8 @@ use lib.IntN.{ℤ, pos, negsuc, _+ℤ_}
 use lib.Signed.{ltZ}
 use lib.ListN.{length, getD, drop}
 use Rattle.bits.specs.Parsed.{Parsed, got, refused, Placed}
-use Rattle.standard.specs.Numbers.{payloadLimit, size, alone}
+use Rattle.standard.specs.Numbers.{silence, payloadLimit, size, alone}
 use Rattle.standard.specs.Tree.{Kind, kindCode, isDynamic, Position, GainWord, level, copied, PositionWord, absolute, moved, Render, default, kept, given, Update, inactive, active, Object, Tree, kindsOf}
-use Rattle.standard.specs.Updates.{silence}
 use Rattle.standard.specs.Syntax.{syntax}
 use Rattle.standard.specs.Rows.{Picture, Row, State, defaultPicture, noRow, is, isSilent}
 use Rattle.standard.specs.Marks.{settled, doubted, rowMark}

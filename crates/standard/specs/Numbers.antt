@@ -1,5 +1,6 @@
 -- Every size and limit of document 01, and the numbers of its table that no reading gives, each named once.
 use Prim.Native.Nat.{ℕ, _+_, _*_}
+use lib.IntN.{ℤ, pos, negsuc}
 use Rattle.bits.specs.Parsed.{Refusal}
 
 -- Tables
@@ -32,6 +33,90 @@ blocksLength = rowWidth * objectLimit * blockLimit
 unfoldable pub timingsLength : ℕ
 unfolding blockLimit
 timingsLength = 2 * blockLimit
+
+-- Where each number of a row stands in it
+
+abbrev pub kindAt : ℕ
+kindAt = 0
+
+abbrev pub activeAt : ℕ
+activeAt = 1
+
+abbrev pub gainAt : ℕ
+gainAt = 2
+
+abbrev pub priorityAt : ℕ
+priorityAt = 3
+
+abbrev pub xAt : ℕ
+xAt = 4
+
+abbrev pub yAt : ℕ
+yAt = 5
+
+abbrev pub zAt : ℕ
+zAt = 6
+
+abbrev pub widthAt : ℕ
+widthAt = 7
+
+abbrev pub depthAt : ℕ
+depthAt = 8
+
+abbrev pub heightAt : ℕ
+heightAt = 9
+
+abbrev pub screenAt : ℕ
+screenAt = 10
+
+abbrev pub lockAt : ℕ
+lockAt = 11
+
+abbrev pub zoneAt : ℕ
+zoneAt = 12
+
+abbrev pub elevationAt : ℕ
+elevationAt = 13
+
+abbrev pub markAt : ℕ
+markAt = 14
+
+-- How far each number of a row goes
+
+-- x and y, from 0
+abbrev pub sideLimit : ℕ
+sideLimit = 62
+
+-- z, to either side of 0
+abbrev pub heightLimit : ℕ
+heightLimit = 15
+
+-- width, depth and height, from 0
+abbrev pub sizeLimit : ℕ
+sizeLimit = 31
+
+abbrev pub zoneLimit : ℕ
+zoneLimit = 5
+
+abbrev pub priorityLimit : ℕ
+priorityLimit = 32
+
+-- in dB
+abbrev pub lowestGain : ℤ
+lowestGain = negsuc 48
+
+abbrev pub highestGain : ℤ
+highestGain = pos 15
+
+-- minus infinity
+abbrev pub silence : ℤ
+silence = negsuc 127
+
+-- x and y of the default picture
+abbrev pub middle : ℕ
+middle = 31
+
+-- Limits of what is read
 
 -- in bytes
 unfoldable pub payloadLimit : ℕ

@@ -9,7 +9,8 @@ use Rattle.bits.specs.Parsed.{Parser, _>>=_, _>>_, mapP, pure}
 use Rattle.bits.specs.Reads.{read, flag}
 use Rattle.standard.specs.Contexts as context
 use Rattle.standard.specs.Tree.{Kind, kindCode, isDynamic, Position, Zone, Size, PositionWord}
-use Rattle.standard.specs.Updates.{silence, gainWord, priorityWord, differential, absolutely, distance, bit, zoneWord, sized, sizeWord, screenWord, status, tableData}
+use Rattle.standard.specs.Numbers.{silence}
+use Rattle.standard.specs.Updates.{gainWord, priorityWord, differential, absolutely, distance, bit, zoneWord, sized, sizeWord, screenWord, status, tableData}
 use Rattle.standard.specs.Rows.{Picture, Row, defaultPicture}
 use Rattle.standard.specs.Marks.{settled, isAbsolute}
 use Rattle.standard.specs.Meaning.{gainSaid, positionSaid}

@@ -20,8 +20,8 @@ use bits::BitPlace;
 use bits::Flag;
 use bits::Number;
 use bits::is_set;
+use rows::numbers::SILENCE;
 use rows::row::Row;
-use rows::row::SILENCE;
 
 // The gain of the object before, in the same block: no gain of the row's own.
 pub struct PreviousGain(pub i16);

@@ -33,9 +33,9 @@ use contexts::RENDER_INFO_STATUS;
 use render::parse_render_info;
 use rows::row::DYNAMIC;
 use rows::row::Row;
+use rows::row::default_picture;
 use state::SETTLED;
 use state::begun;
-use state::default_picture;
 use state::silenced;
 
 // The row that follows and the place after what was read, or the refusal.

@@ -19,7 +19,6 @@ use crate::contexts::ZONE_CONSTRAINTS_INDEX;
 use crate::position::parse_position;
 use crate::read_parts;
 use crate::state::SETTLED;
-use crate::state::default_picture;
 use crate::state::with_lock;
 use crate::state::with_screen;
 use crate::state::with_size;
@@ -30,6 +29,7 @@ use bits::Number;
 use bits::Refusal;
 use bits::is_set;
 use rows::row::Row;
+use rows::row::default_picture;
 
 pub fn parse_render_info(
     payload: &[u8],

@@ -3,15 +3,14 @@ ghost use mathlib.Core.Path.{_≡_};
 ghost use Prim.Native.Nat.{_≤_, _<_};
 ghost use lib.IntN.{pos};
 ghost use Rattle.standard.specs.Updates.{bit, sized};
-ghost use Rattle.standard.specs.Rows.{defaultPicture};
-ghost use Rattle.rows.specs.Say.{positionSaid, pictureSaid, rowSaid};
+ghost use Rattle.rows.specs.Say.{positionSaid, rowSaid};
 ghost use Rattle.update.specs.Kinds.{kindOf};
 ghost use Rattle.update.specs.Passes as pass;
+use rows::numbers::SILENCE;
 use rows::row::DYNAMIC;
 use rows::row::Picture;
 use rows::row::Position;
 use rows::row::Row;
-use rows::row::SILENCE;
 use rows::row::Size;
 use rows::row::Zone;
 
@@ -118,23 +117,4 @@ pub fn with_lock(mut row: Row, on: bool) -> Row
     picture.lock = number_of(on);
     row.picture = picture;
     row
-}
-
-pub fn default_picture() -> Picture
-    ensures { λ r. ⌜ pictureSaid r ≡ defaultPicture ⌝ }
-{
-    Picture {
-        position: Position { x: 31, y: 31, z: 0 },
-        zone: Zone {
-            zone: 0,
-            elevation: 1,
-        },
-        size: Size {
-            width: 0,
-            depth: 0,
-            height: 0,
-        },
-        screen: 0,
-        lock: 0,
-    }
 }

@@ -9,7 +9,7 @@ use Rattle.bits.specs.Parsed.{_>>=_, mapP, pure}
 use Rattle.bits.specs.Say.{said}
 use Rattle.bits.proofs.Laws.{gives, read-lt}
 use Rattle.standard.specs.Meaning.{gainSaid}
-use Rattle.standard.specs.Updates.{silence, gainWord}
+use Rattle.standard.specs.Updates.{gainWord}
 use Rattle.rows.proofs.Tests.{back}
 use Rattle.update.specs.Passes.{gainPass}
 use Rattle.update.proofs.Numbers.{unset, set}
@@ -23,19 +23,19 @@ gain-db-requires : tie.Need-gain-db-requires
 gain-db-requires c κs = gives said (read-lt _ _) (c .before .before .before .read2 .ensures) (c .before .word .given .1)
 
 returns-3 : tie.Need-returns-3
-unfolding gainPass gainWord gainSaid silence _>>=_ mapP pure
+unfolding gainPass gainWord gainSaid _>>=_ mapP pure
 returns-3 c =
     let index = c .before .before .before in
     rw (c .with-gain .ensures, asked (index .before .before .before), ← (index .before .before .read .ensures), index .index .given .1, c .before .match2 .keys1)
 
 returns-4 : tie.Need-returns-4
-unfolding gainPass gainWord gainSaid silence _>>=_ mapP pure
+unfolding gainPass gainWord gainSaid _>>=_ mapP pure
 returns-4 c =
     let index = c .before .before .before in
     rw (c .with-gain2 .ensures, asked (index .before .before .before), ← (index .before .before .read .ensures), index .index .given .1, c .before .match2 .keys2)
 
 returns-5 : tie.Need-returns-5
-unfolding gainPass gainWord gainSaid silence _>>=_ mapP pure
+unfolding gainPass gainWord gainSaid _>>=_ mapP pure
 returns-5 c =
     let index = c .before .before .before .before .before .before in
     rw (
@@ -48,7 +48,7 @@ returns-5 c =
     )
 
 returns-6 : tie.Need-returns-6
-unfolding gainPass gainWord gainSaid silence _>>=_ mapP pure
+unfolding gainPass gainWord gainSaid _>>=_ mapP pure
 returns-6 c =
     let word = c .before .before .before in
     let index = word .before .before .before .before .before in
@@ -65,7 +65,7 @@ returns-6 c =
     )
 
 returns-7 : tie.Need-returns-7
-unfolding gainPass gainWord gainSaid silence _>>=_ mapP pure
+unfolding gainPass gainWord gainSaid _>>=_ mapP pure
 returns-7 c =
     let index = c .before .before .before .before in
     let n = index .index .given .0 .0 in
@@ -82,7 +82,7 @@ returns-7 c =
     )
 
 pub parse-gain-spec : {M : Type 1} → statement M
-unfolding gainPass gainWord gainSaid silence _>>=_ mapP pure
+unfolding gainPass gainWord gainSaid _>>=_ mapP pure
 parse-gain-spec =
     tie.close
     (tie.spec

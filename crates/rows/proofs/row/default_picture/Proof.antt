@@ -1,8 +1,8 @@
--- `update::state::default_picture` meets its contract.
+-- The default picture, number by number.
 use mathlib.Core.Path.{refl}
 use Rattle.standard.specs.Rows.{defaultPicture}
-use Rattle.update.proofs.state.default_picture.Statement.{statement}
-use Rattle.update.proofs.state.default_picture.Tie as tie
+use Rattle.rows.proofs.row.default_picture.Statement.{statement}
+use Rattle.rows.proofs.row.default_picture.Tie as tie
 
 pub default-picture-spec : {M : Type 1} → statement M
 unfolding defaultPicture

@@ -1,4 +1,5 @@
 -- What the contracts of this crate cite beside the paper.
+pub mod Kinds
 pub mod Say
 pub mod Places
 pub mod Retained

@@ -68,6 +68,11 @@ pub const SILENCE: i16 = -128;
 // x and y of the default picture.
 pub const MIDDLE: i16 = 31;
 
+// The marks of a picture.
+pub const UNSETTLED: i16 = 0;
+
+pub const SETTLED: i16 = 1;
+
 // The longest payload that is read, in bytes.
 pub const PAYLOAD_LIMIT: usize = 16384;
 

@@ -3,7 +3,7 @@ use Prim.Native.Nat.{ℕ}
 use mathlib.Core.Bool.{Bool, true, false}
 use mathlib.Core.List.{List, map}
 use mathlib.Core.Option.{Option}
-use lib.IntN.{ℤ}
+use lib.IntN.{ℤ, pos}
 use Rattle.bits.specs.Parsed.{Placed}
 
 pub data Kind : Type 0 where
@@ -14,6 +14,10 @@ kindCode lfe = 0
 kindCode bed = 1
 kindCode isf = 2
 kindCode dynamic = 3
+
+-- as a row holds it
+abbrev pub kindNumber : Kind → ℤ
+kindNumber k = pos (kindCode k)
 
 abbrev pub isDynamic : Kind → Bool
 isDynamic lfe = false

@@ -7,10 +7,9 @@ use native.Mathlib.Omega.{arith}
 use lib.Dec.{T, eqb}
 use lib.Pow.{pow-mono}
 use Rattle.bits.specs.Parsed.{Parsed, got, refused, andThen, mapParsed, _>>=_, mapP, pure}
-use Rattle.bits.specs.Reads.{read}
+use Rattle.bits.specs.Reads.{read, extended}
 use Rattle.bits.proofs.Always.{Ok}
 use Rattle.bits.proofs.Laws.{read-lt}
-use Rattle.standard.specs.Assignment.{extended}
 use Rattle.assignment.specs.Answers.{isValue, endOf}
 
 is-not : (b : Bool) {t : Bool} → T (not b) → b ≡ t → t ≡ false

@@ -10,7 +10,7 @@ use Rattle.bits.proofs.Always.{Always, bind, choose, given, mapped-such}
 use Rattle.bits.proofs.Fields.{read-lt}
 use Rattle.bits.proofs.ParsedLaws.{made-got, made-refused}
 use Rattle.standard.specs.Tree.{Kind, kindCode}
-use Rattle.standard.specs.Assignment.{extended}
+use Rattle.bits.specs.Reads.{extended}
 use Rattle.assignment.specs.Kinds.{Assigned}
 
 pub extended-lt : (w c largest w′ c′ : ℕ) → Always (λ v. v < 2 ^ w + (largest + 2 ^ w′)) (extended w c largest w′ c′)

@@ -7,11 +7,11 @@ use native.Mathlib.Omega.{arith}
 use lib.ListN.{length, replicate, length-replicate}
 use Rattle.bits.specs.Bits.{isSet}
 use Rattle.bits.specs.Parsed.{Parsed, andThen, mapParsed, _>>=_, _>>_, mapP, pure, times}
-use Rattle.bits.specs.Reads.{read, flag}
+use Rattle.bits.specs.Reads.{read, flag, skipBytes}
 use Rattle.bits.proofs.ParsedLaws.{then-got, then-then}
 use Rattle.standard.specs.Contexts as context
 use Rattle.standard.specs.Tree.{Kind, lfe, dynamic, kindCode}
-use Rattle.standard.specs.Assignment.{oneBed, joined, beds, isfs, dynamics, skipBytes, contents}
+use Rattle.standard.specs.Assignment.{oneBed, joined, beds, isfs, dynamics, contents}
 use Rattle.assignment.specs.Kinds.{Table, holding, extend, onto}
 use Rattle.assignment.specs.Parts.{bedCount}
 use Rattle.assignment.proofs.Filling.{map-replicate, onto-read, onto-then, onto-last}

@@ -4,6 +4,7 @@ ghost use mathlib.Core.Bool.{cond};
 ghost use mathlib.Core.List.{[]};
 ghost use Prim.Native.Nat.{_<_, _^_};
 ghost use Rattle.bits.specs.Parsed.{pure};
+ghost use Rattle.bits.specs.Reads.{skipBytes};
 ghost use Rattle.bits.specs.Say.{saidPassed};
 ghost use Rattle.standard.specs.Contexts as context;
 ghost use Rattle.standard.specs.Assignment as paper;
@@ -14,7 +15,6 @@ use crate::kinds::DYNAMIC;
 use crate::kinds::ISF;
 use crate::kinds::extend;
 use crate::read_extended;
-use crate::skip_bytes;
 use bits::BitPlace;
 use bits::Number;
 use bits::Passed;
@@ -114,12 +114,12 @@ fn parse_dynamic(
 }
 
 fn parse_reserved_data(payload: &[u8], limit: BitPlace, at: BitPlace, present: bool) -> Passed
-    ensures { λ r. ⌜ saidPassed r ≡ cond present (paper.skipBytes context.reserved-data-size context.program-assignment-reserved-data) (pure tt) (now (payload .entry)) (limit .0) (at .0) ⌝ }
+    ensures { λ r. ⌜ saidPassed r ≡ cond present (skipBytes context.reserved-data-size context.program-assignment-reserved-data) (pure tt) (now (payload .entry)) (limit .0) (at .0) ⌝ }
 {
     if !present {
         return Passed::To(at);
     }
-    skip_bytes(
+    bits::skip_bytes(
         payload,
         limit,
         at,

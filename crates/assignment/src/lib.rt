@@ -2,6 +2,7 @@
 ghost use mathlib.Core.Path.{_≡_};
 ghost use Prim.Native.Nat.{_≤_, _<_, _^_};
 ghost use lib.ListN.{length};
+ghost use Rattle.bits.specs.Reads.{extended};
 ghost use Rattle.bits.specs.Say.{said, saidPassed};
 ghost use Rattle.standard.specs.Assignment as paper;
 ghost use Rattle.assignment.specs.Kinds.{Assigned};
@@ -40,7 +41,7 @@ pub fn read_extended(
     extra_context: u8,
 ) -> Number
     requires { ⌜ (width ≤ 17) × ((extra ≤ 17) × (largest < 2 ^ 17)) ⌝ }
-    ensures { λ r. ⌜ said r ≡ paper.extended width context largest extra «extra_context» (now (payload .entry)) (limit .0) (at .0) ⌝ }
+    ensures { λ r. ⌜ said r ≡ extended width context largest extra «extra_context» (now (payload .entry)) (limit .0) (at .0) ⌝ }
 {
     let bits = BitCursor::new(payload, limit, at);
     let head = bits.read(width, context);
@@ -148,24 +149,6 @@ fn parse_dynamic_only(
             let first = extend_if(kinds, 0, lfe_present, LFE, 1);
             extend(kinds, first, DYNAMIC, object_count - first);
             Passed::To(next)
-        }
-    }
-}
-
-// A count of bytes less 1 in 4 bits, and so many bytes passed over.
-pub fn skip_bytes(
-    payload: &[u8],
-    limit: BitPlace,
-    at: BitPlace,
-    context: u8,
-    data_context: u8,
-) -> Passed
-    ensures { λ r. ⌜ saidPassed r ≡ paper.skipBytes context «data_context» (now (payload .entry)) (limit .0) (at .0) ⌝ }
-{
-    match bits::read(payload, limit, at, 4, context) {
-        Number::Refused(refusal) => Passed::Refused(refusal),
-        Number::Value(coded, next) => {
-            bits::skip(limit, next, (coded as usize + 1) * 8, data_context)
         }
     }
 }

@@ -47,7 +47,7 @@ use Rattle.cursor.proofs.BitCursor.moved as moved
 use Rattle.cursor.proofs.BitCursor.moved.Symbol.{name as #moved}
 use Rattle.cursor.proofs.BitCursor.read as read
 use Rattle.cursor.proofs.BitCursor.read.Symbol.{name as #read}
-use Rattle.standard.specs.Assignment as paper
+use Rattle.bits.specs.Reads.{extended}
 use Rattle.assignment.proofs.Extended.{stays, goes-on, sum-fits}
 use Rattle.assignment.proofs.Answering.{IsValue, EndOf, Plus, number-makes, typed-number, Tests, Ends, Adds, to-is-value, is-value-asks, is-value-told, to-end-of, end-of-asks, end-of-told, to-plus, plus-asks, plus-told}
 use Rattle.assignment.proofs.answers.is_value as is-value
@@ -96,7 +96,7 @@ module _ {M : Type 1} (𝓤 : URA M) (H : Heap 𝓤) (A : Atoms 𝓤) (W : Given
 
   -- what the contract says of an answer
   abbrev Says : Number → Type 0
-  Says r = said r ≡ paper.extended width context largest extra extra-context (now s) (limit .0) (at .0)
+  Says r = said r ≡ extended width context largest extra extra-context (now s) (limit .0) (at .0)
 
   -- what the parameters own, and the payload alone
   abbrev All : Fml

@@ -14,12 +14,12 @@ use crate::contexts;
 use crate::kinds::DYNAMIC;
 use crate::kinds::ISF;
 use crate::kinds::extend;
-use crate::read_extended;
 use bits::BitPlace;
 use bits::Number;
 use bits::Passed;
 use bits::Refusal;
 use bits::is_set;
+use cursor::read_extended;
 
 const ISF_COUNTS: [u32; 6] = [4, 8, 10, 14, 15, 30];
 
@@ -104,7 +104,6 @@ fn parse_dynamic(
         at,
         5,
         contexts::DYNAMIC_OBJECT_COUNT,
-        31,
         7,
         contexts::EXTENDED_DYNAMIC_OBJECT_COUNT,
     ) {

@@ -2,13 +2,9 @@
 ghost use mathlib.Core.Path.{_≡_};
 ghost use Prim.Native.Nat.{_≤_, _<_, _^_};
 ghost use lib.ListN.{length};
-ghost use Rattle.bits.specs.Reads.{extended};
 ghost use Rattle.bits.specs.Say.{said, saidPassed};
 ghost use Rattle.standard.specs.Assignment as paper;
 ghost use Rattle.assignment.specs.Kinds.{Assigned};
-use crate::answers::end_of;
-use crate::answers::is_value;
-use crate::answers::plus;
 use crate::contents::parse_contents;
 use crate::kinds::DYNAMIC;
 use crate::kinds::LFE;
@@ -19,38 +15,14 @@ use bits::Flag;
 use bits::Number;
 use bits::Passed;
 use bits::Refusal;
-use cursor::BitCursor;
+use cursor::read_extended;
 
-mod answers;
 mod beds;
 mod contents;
 mod contexts;
 mod kinds;
 
 const MAX_OAMD_OBJECTS: u32 = 128;
-
-// A number of `width` bits; its largest value has `extra` more bits added to it.
-pub fn read_extended(
-    payload: &[u8],
-    limit: BitPlace,
-    at: BitPlace,
-    width: usize,
-    context: u8,
-    largest: u32,
-    extra: usize,
-    extra_context: u8,
-) -> Number
-    requires { ⌜ (width ≤ 17) × ((extra ≤ 17) × (largest < 2 ^ 17)) ⌝ }
-    ensures { λ r. ⌜ said r ≡ extended width context largest extra «extra_context» (now (payload .entry)) (limit .0) (at .0) ⌝ }
-{
-    let bits = BitCursor::new(payload, limit, at);
-    let head = bits.read(width, context);
-    if !is_value(head, largest) {
-        return head;
-    }
-    let rest = bits.moved(end_of(head, at));
-    plus(largest, rest.read(extra, extra_context))
-}
 
 pub fn read_version(payload: &[u8], limit: BitPlace, at: BitPlace) -> Passed
     ensures { λ r. ⌜ saidPassed r ≡ paper.version (now (payload .entry)) (limit .0) (at .0) ⌝ }
@@ -61,7 +33,6 @@ pub fn read_version(payload: &[u8], limit: BitPlace, at: BitPlace) -> Passed
         at,
         2,
         contexts::VERSION,
-        3,
         3,
         contexts::EXTENDED_VERSION,
     ) {
@@ -84,7 +55,6 @@ pub fn read_object_count(payload: &[u8], limit: BitPlace, at: BitPlace) -> Numbe
         at,
         5,
         contexts::OBJECT_COUNT,
-        31,
         7,
         contexts::EXTENDED_OBJECT_COUNT,
     ) {

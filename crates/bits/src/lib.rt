@@ -11,7 +11,7 @@ ghost use Rattle.bits.specs.Say.{refusal, said, saidFlag, saidPassed, sa
 mod values;
 
 pub use values::is_set;
-use values::two_to;
+pub use values::two_to;
 use values::with_sign;
 
 const MAX_VARIABLE_BITS_GROUPS: usize = 4;

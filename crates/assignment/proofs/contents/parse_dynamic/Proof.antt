@@ -5,11 +5,10 @@ use borrow.Author.Needs.{needs}
 use borrow.Author.Tests.{not-true, not-false}
 use Rattle.bits.specs.Parsed.{mapP}
 use Rattle.bits.specs.Say.{said}
-use Rattle.bits.proofs.Laws.{gives}
+use Rattle.bits.proofs.Laws.{gives, extended-lt}
 use Rattle.standard.specs.Assignment.{dynamics}
 use Rattle.assignment.specs.Kinds.{onto}
 use Rattle.assignment.proofs.Filling.{onto-none, map-replicate}
-use Rattle.assignment.proofs.Laws.{extended-lt}
 use Rattle.assignment.proofs.contents.parse_dynamic.Statement.{statement}
 use Rattle.assignment.proofs.contents.parse_dynamic.Tie as tie
 

@@ -11,8 +11,6 @@ ghost use Rattle.standard.specs.Assignment as paper;
 ghost use Rattle.assignment.specs.Kinds.{holding, onto, saidTable};
 use crate::beds::parse_beds;
 use crate::contexts;
-use crate::kinds::DYNAMIC;
-use crate::kinds::ISF;
 use crate::kinds::extend;
 use bits::BitPlace;
 use bits::Number;
@@ -20,11 +18,13 @@ use bits::Passed;
 use bits::Refusal;
 use bits::is_set;
 use cursor::read_extended;
+use rows::row::DYNAMIC;
+use rows::row::ISF;
 
 const ISF_COUNTS: [u32; 6] = [4, 8, 10, 14, 15, 30];
 
 // The count goes up to 153 + 30 + 159, whatever the object count: it is tested last.
-pub fn parse_contents(payload: &[u8], limit: BitPlace, at: BitPlace, kinds: &mut [u8]) -> Number
+pub fn parse_contents(payload: &[u8], limit: BitPlace, at: BitPlace, kinds: &mut [i16]) -> Number
     ensures { λ r. ⌜ saidTable r (now (kinds .exit)) ≡ onto (holding 0 (now (kinds .entry))) (paper.contents (now (payload .entry)) (limit .0) (at .0)) ⌝ }
 {
     let description = bits::read(payload, limit, at, 4, contexts::CONTENT_DESCRIPTION);
@@ -54,7 +54,7 @@ fn parse_isf(
     limit: BitPlace,
     at: BitPlace,
     present: bool,
-    kinds: &mut [u8],
+    kinds: &mut [i16],
     count: u32,
 ) -> Number
     requires { ⌜ count < 2 ^ 16 ⌝ }
@@ -89,7 +89,7 @@ fn parse_dynamic(
     limit: BitPlace,
     at: BitPlace,
     present: bool,
-    kinds: &mut [u8],
+    kinds: &mut [i16],
     count: u32,
 ) -> Number
     requires { ⌜ count < 2 ^ 16 ⌝ }

@@ -6,8 +6,6 @@ ghost use Rattle.bits.specs.Say.{said, saidPassed};
 ghost use Rattle.standard.specs.Assignment as paper;
 ghost use Rattle.assignment.specs.Kinds.{Assigned};
 use crate::contents::parse_contents;
-use crate::kinds::DYNAMIC;
-use crate::kinds::LFE;
 use crate::kinds::extend;
 use crate::kinds::extend_if;
 use bits::BitPlace;
@@ -16,13 +14,14 @@ use bits::Number;
 use bits::Passed;
 use bits::Refusal;
 use cursor::read_extended;
+use rows::numbers::OBJECT_LIMIT;
+use rows::row::DYNAMIC;
+use rows::row::LFE;
 
 mod beds;
 mod contents;
 mod contexts;
 mod kinds;
-
-const MAX_OAMD_OBJECTS: u32 = 128;
 
 pub fn read_version(payload: &[u8], limit: BitPlace, at: BitPlace) -> Passed
     ensures { λ r. ⌜ saidPassed r ≡ paper.version (now (payload .entry)) (limit .0) (at .0) ⌝ }
@@ -61,7 +60,7 @@ pub fn read_object_count(payload: &[u8], limit: BitPlace, at: BitPlace) -> Numbe
         Number::Refused(refusal) => Number::Refused(refusal),
         Number::Value(coded, next) => {
             let object_count = coded + 1;
-            if object_count > MAX_OAMD_OBJECTS {
+            if object_count as usize > OBJECT_LIMIT {
                 return Number::Refused(Refusal::limit(contexts::OBJECT_COUNT, at));
             }
             Number::Value(object_count, next)
@@ -69,13 +68,13 @@ pub fn read_object_count(payload: &[u8], limit: BitPlace, at: BitPlace) -> Numbe
     }
 }
 
-// The codes of the objects' kinds, from the start of the lent table.
+// The numbers of the objects' kinds, from the start of the lent table.
 pub fn parse_program_assignment(
     payload: &[u8],
     limit: BitPlace,
     at: BitPlace,
     object_count: usize,
-    kinds: &mut [u8],
+    kinds: &mut [i16],
 ) -> Passed
     requires { ⌜ (0 < «object_count») × ((«object_count» < 2 ^ 16) × («object_count» ≤ length (now kinds))) ⌝ }
     ensures { λ r. ⌜ Assigned (paper.assignment «object_count» (now (payload .entry)) (limit .0) (at .0)) «object_count» (saidPassed r) (now (kinds .entry)) (now (kinds .exit)) ⌝ }
@@ -108,7 +107,7 @@ fn parse_dynamic_only(
     limit: BitPlace,
     at: BitPlace,
     object_count: u32,
-    kinds: &mut [u8],
+    kinds: &mut [i16],
 ) -> Passed
     requires { ⌜ (0 < «object_count») × ((«object_count» < 2 ^ 16) × («object_count» ≤ length (now kinds))) ⌝ }
     ensures { λ r. ⌜ Assigned (paper.onlyDynamic «object_count» (now (payload .entry)) (limit .0) (at .0)) «object_count» (saidPassed r) (now (kinds .entry)) (now (kinds .exit)) ⌝ }

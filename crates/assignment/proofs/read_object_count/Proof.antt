@@ -31,6 +31,7 @@ read-object-count-spec =
     (λ c. search needs)
     (λ c. search needs)
     (λ c. omega (arith, gives said (extended-lt _ _ _ _ _) (c .before .before .before .read-extended .ensures) (c .before .coded .given .1)))
+    (λ c. search needs)
     (λ c κs. search needs)
     returns
     (λ c. rw (← (c .before .before .before .read-extended .ensures), c .before .refusal .given .1))

@@ -7,19 +7,19 @@ ghost use lib.ListN.{length};
 ghost use Rattle.bits.specs.Parsed.{mapP, pure, times};
 ghost use Rattle.bits.specs.Reads.{read};
 ghost use Rattle.bits.specs.Say.{said};
-ghost use Rattle.standard.specs.Tree.{kindCode};
+ghost use Rattle.standard.specs.Tree.{kindNumber};
 ghost use Rattle.standard.specs.Assignment as paper;
 ghost use Rattle.assignment.specs.Kinds.{holding, extend, onto, saidTable};
 ghost use Rattle.assignment.specs.Parts.{bedCount, bedChannels, channelKind, channels};
 use crate::contexts;
-use crate::kinds::BED;
-use crate::kinds::LFE;
 use crate::kinds::extend_if;
 use crate::kinds::push;
 use bits::BitPlace;
 use bits::Flag;
 use bits::Number;
 use bits::is_set;
+use rows::row::BED;
+use rows::row::LFE;
 
 // The widths of the channels, from bit 0; bit 0 and one more are Lfe.
 const STANDARD_WIDTHS: [u8; 10] = [1, 2, 2, 2, 2, 2, 2, 1, 1, 2];
@@ -35,7 +35,7 @@ pub fn parse_beds(
     limit: BitPlace,
     at: BitPlace,
     present: bool,
-    kinds: &mut [u8],
+    kinds: &mut [i16],
 ) -> Number
     ensures { λ r. ⌜ saidTable r (now (kinds .exit)) ≡ onto (holding 0 (now (kinds .entry))) (cond present paper.beds (pure []) (now (payload .entry)) (limit .0) (at .0)) ⌝ }
 {
@@ -76,7 +76,7 @@ fn parse_bed_instances(
     limit: BitPlace,
     at: BitPlace,
     bed_count: u32,
-    kinds: &mut [u8],
+    kinds: &mut [i16],
 ) -> Number
     requires { ⌜ «bed_count» ≤ 9 ⌝ }
     ensures { λ r. ⌜ saidTable r (now (kinds .exit)) ≡ onto (holding 0 (now (kinds .entry))) (mapP paper.joined (times «bed_count» paper.oneBed) (now (payload .entry)) (limit .0) (at .0)) ⌝ }
@@ -94,7 +94,7 @@ fn parse_bed_instances(
     Number::Value(count, place)
 }
 
-fn parse_bed(payload: &[u8], limit: BitPlace, at: BitPlace, kinds: &mut [u8], count: u32) -> Number
+fn parse_bed(payload: &[u8], limit: BitPlace, at: BitPlace, kinds: &mut [i16], count: u32) -> Number
     requires { ⌜ count < 2 ^ 16 ⌝ }
     ensures { λ r. ⌜ saidTable r (now (kinds .exit)) ≡ onto (holding count (now (kinds .entry))) (paper.oneBed (now (payload .entry)) (limit .0) (at .0)) ⌝ }
 {
@@ -113,7 +113,7 @@ fn parse_bed_channels(
     payload: &[u8],
     limit: BitPlace,
     at: BitPlace,
-    kinds: &mut [u8],
+    kinds: &mut [i16],
     count: u32,
 ) -> Number
     requires { ⌜ count < 2 ^ 16 ⌝ }
@@ -156,7 +156,7 @@ fn parse_assignment(
     context: u8,
     widths: &[u8],
     second_lfe: usize,
-    kinds: &mut [u8],
+    kinds: &mut [i16],
     count: u32,
 ) -> Number
     requires { ⌜ (length (now widths) ≤ 17) × (count < 2 ^ 16) ⌝ }
@@ -174,14 +174,14 @@ fn parse_assignment(
 }
 
 fn extend_chosen(
-    kinds: &mut [u8],
+    kinds: &mut [i16],
     count: u32,
     assignment: u32,
     widths: &[u8],
     second_lfe: usize,
 ) -> u32
     requires { ⌜ (length (now widths) ≤ 17) × (count < 2 ^ 16) ⌝ }
-    ensures { λ r. ⌜ holding r (now (kinds .exit)) ≡ extend (map kindCode (paper.chosen (channels «second_lfe» 0 (now (widths .entry))) assignment)) (holding count (now (kinds .entry))) ⌝ }
+    ensures { λ r. ⌜ holding r (now (kinds .exit)) ≡ extend (map kindNumber (paper.chosen (channels «second_lfe» 0 (now (widths .entry))) assignment)) (holding count (now (kinds .entry))) ⌝ }
 {
     let mut total = count;
     for index in 0..widths.len() {
@@ -192,8 +192,8 @@ fn extend_chosen(
     total
 }
 
-fn channel_kind(second_lfe: usize, index: usize) -> u8
-    ensures { λ r. ⌜ r ≡ kindCode (channelKind «second_lfe» index) ⌝ }
+fn channel_kind(second_lfe: usize, index: usize) -> i16
+    ensures { λ r. ⌜ r ≡ kindNumber (channelKind «second_lfe» index) ⌝ }
 {
     if index == 0 || index == second_lfe {
         LFE

@@ -8,7 +8,7 @@ use Rattle.assignment.proofs.beds.parse_assignment.Tie as tie
 returns-2 : tie.Need-returns-2
 unfolding onto mapP
 returns-2 c =
-    let x = c .before .before in
+    let x = c .before in
     let v = x .before .before .before in
     rw (x .extend-chosen .ensures, ← (v .before .before .read .ensures), v .assignment .given .1)
 

@@ -12,7 +12,7 @@ use Rattle.assignment.proofs.beds.parse_bed_channels.Statement.{stateme
 use Rattle.assignment.proofs.beds.parse_bed_channels.Tie as tie
 
 at-standard : (c : tie.After-standard) →
-    let a = c .before .before .before .before .before .args in
+    let a = c .before .before .before .before .args in
     bedChannels (a .payload .now) (a .limit .0) (a .at .0)
     ≡ cond (c .standard .given .0 .0)
     (mapP (chosen standardBeds) (read 10 context.standard-bed-assignment))
@@ -24,7 +24,7 @@ at-standard c = rw (← (c .before .before .read-flag .ensures), c .standard .gi
 returns : tie.Need-returns
 unfolding standardBeds channels channelKind
 returns c =
-    let p = c .before .before in
+    let p = c .before in
     let i = p .before .before .before in
     rw (at-standard (i .before .before), i .if1 .taken) (p .parse-assignment .ensures)
 
@@ -35,7 +35,7 @@ returns-2 c = rw (← (c .before .before .before .read-flag .ensures), c .before
 returns-3 : tie.Need-returns-3
 unfolding nonstandardBeds channels channelKind
 returns-3 c =
-    let p = c .before .before in
+    let p = c .before in
     let i = p .before .before .before in
     rw (at-standard (i .before .before), i .if1 .left) (p .parse-assignment2 .ensures)
 

@@ -11,6 +11,7 @@ use bits::BitPlace;
 use bits::Passed;
 use rows::numbers::ROW_WIDTH;
 use rows::row::Row;
+use rows::table::gain_at;
 use rows::table::put_row;
 use rows::table::row_at;
 use update::Updated;
@@ -90,7 +91,7 @@ fn gain_before(blocks: &[i16], object_count: usize, block: usize, object: usize)
     if object == 0 {
         return 0;
     }
-    row_at(blocks, row_place(object_count, block, object - 1)).gain
+    gain_at(blocks, row_place(object_count, block, object - 1))
 }
 
 fn row_place(object_count: usize, block: usize, object: usize) -> usize

@@ -3,8 +3,7 @@ use Prim.Native.Nat.{suc, _-_}
 use mathlib.Core.Path.{_≡_}
 use native.Mathlib.Omega.{arith}
 use borrow.Author.Needs.{needs}
-use mir.Syntax.{w16}
-use mir.Facts.{toZ-ofZ}
+use Rattle.rows.proofs.Tests.{back}
 use Rattle.objects.specs.Walk.{gainBefore}
 use Rattle.objects.proofs.Places.{next-to}
 use Rattle.objects.proofs.walk.gain_before.Statement.{statement}
@@ -19,17 +18,17 @@ row-place-requires c κs =
     let a = c .before .args in
     omega (arith, next-to (a .object-count) (a .block) (a .object) (omega arith))
 
-row-at-requires : tie.Need-row-at-requires
-row-at-requires c κs =
+gain-at-requires : tie.Need-gain-at-requires
+gain-at-requires c κs =
     let a = c .before .before .args in
     omega (arith, c .row-place .ensures, next-to (a .object-count) (a .block) (a .object) (omega arith))
 
 later : tie.Need-returns-2
 unfolding gainBefore
 later c =
-    let o = c .before .before .before .before .args .object in
+    let o = c .before .before .before .args .object in
     let k : o ≡ suc (o - 1) = omega arith in
-    rw (toZ-ofZ {w = w16} (record { sfits = c .struct-told .given .1 .1 .0 .1 }), k, ← (c .before .before .row-place .ensures), ← (c .before .row-at .ensures))
+    rw (back {z = c .gain-at .result} (c .gain-at .ok), c .gain-at .ensures, k, ← (c .before .row-place .ensures))
 
 pub gain-before-spec : {M : Type 1} → statement M
-gain-before-spec = tie.close (tie.spec first (λ c. search needs) row-place-requires row-at-requires later)
+gain-before-spec = tie.close (tie.spec first (λ c. search needs) row-place-requires gain-at-requires later)

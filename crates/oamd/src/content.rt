@@ -1,11 +1,12 @@
 // The content of an element, by its id; what is left of the element is zero.
 ghost use mathlib.Core.Path.{_≡_};
-ghost use mathlib.Core.List.{List};
+ghost use mathlib.Core.List.{List, map};
 ghost use lib.IntN.{ℤ};
+ghost use lib.ListN.{length};
 ghost use Prim.Native.Nat.{ℕ};
 ghost use Rattle.standard.specs.Tables.{rowsOf};
+ghost use Rattle.update.specs.Kinds.{kindOf};
 ghost use Rattle.objects.specs.Element.{Room};
-ghost use Rattle.objects.specs.Walk.{kindsIn};
 ghost use Rattle.oamd.specs.Frame.{endIn, objectIn, trimIn, contentIn};
 ghost use Rattle.oamd.specs.Reading.{Framing, framed, lentFrame};
 ghost use Rattle.oamd.specs.Say.{saidFound, saidElements};
@@ -40,14 +41,13 @@ pub fn parse_content(
     element_id: u32,
     id_at: BitPlace,
     kinds: &[u8],
-    object_count: usize,
     start: &[i16],
     found: Found,
     blocks: &mut [i16],
     timings: &mut [u16],
 ) -> Elements
-    requires { ⌜ Room «object_count» (now kinds) (now start) (now blocks) (now timings) ⌝ }
-    ensures { λ r. ⌜ Framing (contentIn (rowsOf «object_count» (now (start .entry))) (kindsIn «object_count» (now (kinds .entry))) («id_at» .0) «element_id» (lentFrame (saidFound found) (now (blocks .entry)) (now (timings .entry))) (now (payload .entry)) («element_end» .0) (at .0)) (saidElements r) (now (blocks .entry)) (now (blocks .exit)) (now (timings .entry)) (now (timings .exit)) ⌝ }
+    requires { ⌜ Room (length (now kinds)) (now start) (now blocks) (now timings) ⌝ }
+    ensures { λ r. ⌜ Framing (contentIn (rowsOf (length (now (kinds .entry))) (now (start .entry))) (map kindOf (now (kinds .entry))) («id_at» .0) «element_id» (lentFrame (saidFound found) (now (blocks .entry)) (now (timings .entry))) (now (payload .entry)) («element_end» .0) (at .0)) (saidElements r) (now (blocks .entry)) (now (blocks .exit)) (now (timings .entry)) (now (timings .exit)) ⌝ }
 {
     match element_id {
         OBJECT_ELEMENT_ID => parse_object_content(
@@ -56,13 +56,12 @@ pub fn parse_content(
             at,
             id_at,
             kinds,
-            object_count,
             start,
             found,
             blocks,
             timings,
         ),
-        TRIM_ELEMENT_ID => parse_trim_content(payload, element_end, at, object_count, found),
+        TRIM_ELEMENT_ID => parse_trim_content(payload, element_end, at, kinds.len(), found),
         // What an unknown element holds is free.
         _ => Elements::Read(found, at),
     }
@@ -74,28 +73,18 @@ fn parse_object_content(
     at: BitPlace,
     id_at: BitPlace,
     kinds: &[u8],
-    object_count: usize,
     start: &[i16],
     found: Found,
     blocks: &mut [i16],
     timings: &mut [u16],
 ) -> Elements
-    requires { ⌜ Room «object_count» (now kinds) (now start) (now blocks) (now timings) ⌝ }
-    ensures { λ r. ⌜ Framing (objectIn (rowsOf «object_count» (now (start .entry))) (kindsIn «object_count» (now (kinds .entry))) («id_at» .0) (lentFrame (saidFound found) (now (blocks .entry)) (now (timings .entry))) (now (payload .entry)) («element_end» .0) (at .0)) (saidElements r) (now (blocks .entry)) (now (blocks .exit)) (now (timings .entry)) (now (timings .exit)) ⌝ }
+    requires { ⌜ Room (length (now kinds)) (now start) (now blocks) (now timings) ⌝ }
+    ensures { λ r. ⌜ Framing (objectIn (rowsOf (length (now (kinds .entry))) (now (start .entry))) (map kindOf (now (kinds .entry))) («id_at» .0) (lentFrame (saidFound found) (now (blocks .entry)) (now (timings .entry))) (now (payload .entry)) («element_end» .0) (at .0)) (saidElements r) (now (blocks .entry)) (now (blocks .exit)) (now (timings .entry)) (now (timings .exit)) ⌝ }
 {
     let Found::Nothing = found else {
         return Elements::Refused(Refusal::invalid(contexts::DUPLICATE_OBJECT_ELEMENT, id_at));
     };
-    match parse_object_element(
-        payload,
-        element_end,
-        at,
-        kinds,
-        object_count,
-        start,
-        blocks,
-        timings,
-    ) {
+    match parse_object_element(payload, element_end, at, kinds, start, blocks, timings) {
         Element::Refused(refusal) => Elements::Refused(refusal),
         Element::Blocks(block_count, next) => {
             end_element(payload, element_end, next, Found::Blocks(block_count))

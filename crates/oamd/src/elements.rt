@@ -1,9 +1,11 @@
 // The elements of a payload, one after the other.
+ghost use mathlib.Core.List.{map};
 ghost use mathlib.Core.Option.{none};
 ghost use Prim.Native.Nat.{_<_, _^_};
+ghost use lib.ListN.{length};
 ghost use Rattle.standard.specs.Tables.{rowsOf};
+ghost use Rattle.update.specs.Kinds.{kindOf};
 ghost use Rattle.objects.specs.Element.{Room};
-ghost use Rattle.objects.specs.Walk.{kindsIn};
 ghost use Rattle.oamd.specs.Frame.{elementIn, elementsIn};
 ghost use Rattle.oamd.specs.Reading.{Framing, lentFrame};
 ghost use Rattle.oamd.specs.Say.{saidFound, saidElements};
@@ -21,13 +23,12 @@ pub fn parse_elements(
     element_count: u32,
     alternate_data: bool,
     kinds: &[u8],
-    object_count: usize,
     start: &[i16],
     blocks: &mut [i16],
     timings: &mut [u16],
 ) -> Elements
-    requires { ⌜ (limit .0 < 2 ^ 32) × Room «object_count» (now kinds) (now start) (now blocks) (now timings) ⌝ }
-    ensures { λ r. ⌜ Framing (elementsIn (rowsOf «object_count» (now (start .entry))) «element_count» «alternate_data» (kindsIn «object_count» (now (kinds .entry))) (lentFrame none (now (blocks .entry)) (now (timings .entry))) (now (payload .entry)) (limit .0) (at .0)) (saidElements r) (now (blocks .entry)) (now (blocks .exit)) (now (timings .entry)) (now (timings .exit)) ⌝ }
+    requires { ⌜ (limit .0 < 2 ^ 32) × Room (length (now kinds)) (now start) (now blocks) (now timings) ⌝ }
+    ensures { λ r. ⌜ Framing (elementsIn (rowsOf (length (now (kinds .entry))) (now (start .entry))) «element_count» «alternate_data» (map kindOf (now (kinds .entry))) (lentFrame none (now (blocks .entry)) (now (timings .entry))) (now (payload .entry)) (limit .0) (at .0)) (saidElements r) (now (blocks .entry)) (now (blocks .exit)) (now (timings .entry)) (now (timings .exit)) ⌝ }
 {
     let mut found = Found::Nothing;
     let mut place = at;
@@ -38,7 +39,6 @@ pub fn parse_elements(
             place,
             alternate_data,
             kinds,
-            object_count,
             start,
             found,
             blocks,
@@ -59,14 +59,13 @@ fn parse_element(
     at: BitPlace,
     alternate_data: bool,
     kinds: &[u8],
-    object_count: usize,
     start: &[i16],
     found: Found,
     blocks: &mut [i16],
     timings: &mut [u16],
 ) -> Elements
-    requires { ⌜ (limit .0 < 2 ^ 32) × Room «object_count» (now kinds) (now start) (now blocks) (now timings) ⌝ }
-    ensures { λ r. ⌜ Framing (elementIn (rowsOf «object_count» (now (start .entry))) «alternate_data» (kindsIn «object_count» (now (kinds .entry))) (lentFrame (saidFound found) (now (blocks .entry)) (now (timings .entry))) (now (payload .entry)) (limit .0) (at .0)) (saidElements r) (now (blocks .entry)) (now (blocks .exit)) (now (timings .entry)) (now (timings .exit)) ⌝ }
+    requires { ⌜ (limit .0 < 2 ^ 32) × Room (length (now kinds)) (now start) (now blocks) (now timings) ⌝ }
+    ensures { λ r. ⌜ Framing (elementIn (rowsOf (length (now (kinds .entry))) (now (start .entry))) «alternate_data» (map kindOf (now (kinds .entry))) (lentFrame (saidFound found) (now (blocks .entry)) (now (timings .entry))) (now (payload .entry)) (limit .0) (at .0)) (saidElements r) (now (blocks .entry)) (now (blocks .exit)) (now (timings .entry)) (now (timings .exit)) ⌝ }
 {
     match read_element_head(payload, limit, at, alternate_data) {
         Head::Refused(refusal) => Elements::Refused(refusal),
@@ -78,7 +77,6 @@ fn parse_element(
                 element_id,
                 at,
                 kinds,
-                object_count,
                 start,
                 found,
                 blocks,

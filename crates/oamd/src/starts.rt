@@ -1,6 +1,7 @@
 // The start rows: the retained ones where the kinds are the same, default ones where they are not.
 ghost use mathlib.Core.Path.{_≡_};
 ghost use mathlib.Core.Bool.{cond};
+ghost use mathlib.Core.List.{map};
 ghost use Prim.Native.Nat.{_+_, _*_, _<_, _≤_};
 ghost use lib.IntN.{pos};
 ghost use lib.ListN.{length, getD};
@@ -13,8 +14,7 @@ ghost use Rattle.standard.specs.Calls.{over};
 ghost use Rattle.rows.specs.Say.{rowSaid};
 ghost use Rattle.rows.specs.Places.{rowAt};
 ghost use Rattle.update.specs.Kinds.{kindOf};
-ghost use Rattle.objects.specs.Walk.{kindsIn};
-ghost use Rattle.oamd.specs.Asked.{Held, Coded};
+ghost use Rattle.oamd.specs.Asked.{Held};
 use rows::numbers::RETAINED_HEAD;
 use rows::numbers::ROW_WIDTH;
 use rows::retained::count_of;
@@ -26,25 +26,25 @@ use rows::table::row_at;
 use update::default_row;
 use update::held_row;
 
-pub fn write_starts(retained: &[i16], kinds: &[u8], object_count: usize, start: &mut [i16])
-    requires { ⌜ Held (now retained) × (Coded «object_count» (now kinds) × (startLength ≤ length (now start))) ⌝ }
-    ensures { λ _. ⌜ now (start .exit) ≡ over (rowsNumbers (startRows (stateOf (now (retained .entry))) (kindsIn «object_count» (now (kinds .entry))))) (now (start .entry)) ⌝ }
+pub fn write_starts(retained: &[i16], kinds: &[u8], start: &mut [i16])
+    requires { ⌜ Held (now retained) × ((length (now kinds) ≤ objectLimit) × (startLength ≤ length (now start))) ⌝ }
+    ensures { λ _. ⌜ now (start .exit) ≡ over (rowsNumbers (startRows (stateOf (now (retained .entry))) (map kindOf (now (kinds .entry))))) (now (start .entry)) ⌝ }
 {
-    let held = same_kinds(retained, kinds, object_count);
-    for object in 0..object_count {
+    let held = same_kinds(retained, kinds);
+    for object in 0..kinds.len() {
         let row = start_row(retained, object, kinds[object], held);
         put_row(start, object * ROW_WIDTH, row);
     }
 }
 
-fn same_kinds(retained: &[i16], kinds: &[u8], object_count: usize) -> bool
-    requires { ⌜ Held (now retained) × Coded «object_count» (now kinds) ⌝ }
-    ensures { λ r. ⌜ r ≡ sameKinds (kindsIn «object_count» (now (kinds .entry))) (stateOf (now (retained .entry)) .rows) ⌝ }
+fn same_kinds(retained: &[i16], kinds: &[u8]) -> bool
+    requires { ⌜ Held (now retained) × (length (now kinds) ≤ objectLimit) ⌝ }
+    ensures { λ r. ⌜ r ≡ sameKinds (map kindOf (now (kinds .entry))) (stateOf (now (retained .entry)) .rows) ⌝ }
 {
-    if count_of(retained) != object_count {
+    if count_of(retained) != kinds.len() {
         return false;
     }
-    for object in 0..object_count {
+    for object in 0..kinds.len() {
         let kind = kind_at(retained, RETAINED_HEAD + object * ROW_WIDTH);
         if !is_kind(kind, kinds[object]) {
             return false;

@@ -1,12 +1,13 @@
 // The rows of the objects: object by object, and in each block by block.
 ghost use mathlib.Core.Path.{_≡_};
+ghost use mathlib.Core.List.{map};
 ghost use Prim.Native.Nat.{_+_, _*_, _≤_, _<_, _^_};
 ghost use lib.ListN.{length};
 ghost use Rattle.standard.specs.Numbers.{rowWidth};
 ghost use Rattle.rows.specs.Say.{rowSaid};
 ghost use Rattle.update.specs.Kinds.{kindOf};
 ghost use Rattle.objects.specs.Fills.{Fills};
-ghost use Rattle.objects.specs.Walk.{kindsIn, place, gainBefore, columnFrom, objectsFrom};
+ghost use Rattle.objects.specs.Walk.{place, gainBefore, columnFrom, objectsFrom};
 use bits::BitPlace;
 use bits::Passed;
 use rows::numbers::ROW_WIDTH;
@@ -23,14 +24,14 @@ pub fn parse_objects(
     limit: BitPlace,
     at: BitPlace,
     kinds: &[u8],
-    object_count: usize,
     block_count: usize,
     start: &[i16],
     blocks: &mut [i16],
 ) -> Passed
-    requires { ⌜ («object_count» ≤ length (now kinds)) × ((«object_count» * rowWidth ≤ length (now start)) × («block_count» * «object_count» * rowWidth ≤ length (now blocks))) ⌝ }
-    ensures { λ r. ⌜ Fills («block_count» * «object_count» * rowWidth) (objectsFrom «object_count» «block_count» (now (start .entry)) 0 (kindsIn «object_count» (now (kinds .entry))) (now (blocks .entry)) (now (payload .entry)) (limit .0) (at .0)) (now (blocks .entry)) r (now (blocks .exit)) ⌝ }
+    requires { ⌜ (length (now kinds) * rowWidth ≤ length (now start)) × («block_count» * length (now kinds) * rowWidth ≤ length (now blocks)) ⌝ }
+    ensures { λ r. ⌜ Fills («block_count» * length (now (kinds .entry)) * rowWidth) (objectsFrom (length (now (kinds .entry))) «block_count» (now (start .entry)) 0 (map kindOf (now (kinds .entry))) (now (blocks .entry)) (now (payload .entry)) (limit .0) (at .0)) (now (blocks .entry)) r (now (blocks .exit)) ⌝ }
 {
+    let object_count = kinds.len();
     let mut place = at;
     for object in 0..object_count {
         let first = row_at(start, object * ROW_WIDTH);

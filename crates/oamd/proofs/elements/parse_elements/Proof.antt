@@ -1,9 +1,11 @@
 -- `oamd::elements::parse_elements` meets its contract: what is left to read is the later elements, from the frame so far.
 use Prim.Native.Nat.{_-_}
+use mathlib.Core.List.{map}
 use native.Mathlib.Omega.{arith}
 use borrow.Author.Needs.{needs}
+use lib.ListN.{length}
 use Rattle.standard.specs.Tables.{rowsOf}
-use Rattle.objects.specs.Walk.{kindsIn}
+use Rattle.update.specs.Kinds.{kindOf}
 use Rattle.oamd.specs.Frame.{elementsIn}
 use Rattle.oamd.specs.Reading.{lentFrame}
 use Rattle.oamd.specs.Say.{saidFound}
@@ -12,20 +14,20 @@ use Rattle.oamd.proofs.elements.parse_elements.Statement.{statement}
 use Rattle.oamd.proofs.elements.parse_elements.Tie as tie
 
 abbrev Inv-loop : tie.InvT-loop
-Inv-loop payload limit n alternated kinds objects start blocks₀ timings₀ found₀ place₀ counter₀ blocks timings found place counter =
-    let starts = rowsOf objects start in
-    let ks = kindsIn objects kinds in
+Inv-loop payload limit n alternated kinds start blocks₀ timings₀ found₀ place₀ counter₀ blocks timings found place counter =
+    let starts = rowsOf (length kinds) start in
+    let ks = map kindOf kinds in
     Going starts n alternated ks payload (limit .0) (elementsIn starts n alternated ks (lentFrame (saidFound found₀) blocks₀ timings₀) payload (limit .0) (place₀ .0)) blocks₀ timings₀ counter (saidFound found) blocks timings (place .0)
 
 abbrev μ-loop : tie.MeasureT-loop
-μ-loop payload limit n alternated kinds objects start blocks₀ timings₀ found₀ place₀ counter₀ blocks timings found place counter = n - counter
+μ-loop payload limit n alternated kinds start blocks₀ timings₀ found₀ place₀ counter₀ blocks timings found place counter = n - counter
 
 parse-element-requires : tie.Need-parse-element-requires Inv-loop μ-loop
 parse-element-requires c κs =
     let l = c .before .before .before in
     let room = l .before .before .before .before .pre .1 in
     let k = l .loop .inv .behind in
-    (l .before .before .before .before .pre .0, record { few = room .few; itsKinds = room .itsKinds; itsStart = room .itsStart; forBlocks = omega arith; forTimings = omega arith })
+    (l .before .before .before .before .pre .0, record { few = room .few; itsStart = room .itsStart; forBlocks = omega arith; forTimings = omega arith })
 
 returns : tie.Need-returns Inv-loop μ-loop
 returns c =

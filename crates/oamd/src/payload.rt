@@ -17,6 +17,7 @@ use crate::content::Elements;
 use crate::content::Found;
 use crate::contexts;
 use crate::element::read_element_count;
+use crate::elements::ElementList;
 use crate::elements::parse_elements;
 use crate::starts::write_starts;
 use assignment::parse_program_assignment;
@@ -90,19 +91,14 @@ fn parse_body(
         Flag::Refused(refusal) => Payload::Refused(refusal),
         Flag::Is(alternate_data, count_at) => match read_element_count(payload, limit, count_at) {
             Number::Refused(refusal) => Payload::Refused(refusal),
-            Number::Value(element_count, next) => {
+            Number::Value(count, first) => {
                 write_starts(retained, kinds, start);
-                let elements = parse_elements(
-                    payload,
-                    limit,
-                    next,
-                    element_count,
+                let list = ElementList {
+                    count,
+                    first,
                     alternate_data,
-                    kinds,
-                    start,
-                    blocks,
-                    timings,
-                );
+                };
+                let elements = parse_elements(payload, limit, list, kinds, start, blocks, timings);
                 end_payload(payload, limit, kinds.len() as u32, elements)
             }
         },

@@ -23,7 +23,7 @@ trim c =
 
 unknown : tie.Need-returns-3
 unfolding contentIn pure
-unknown c = unwritten (rw (ne-eqb _ _ (c .match .rest .0 .1), ne-eqb _ _ (c .match .rest .1)))
+unknown c = unwritten (rw (ne-eqb _ _ (c .before .match .rest .0 .1), ne-eqb _ _ (c .before .match .rest .1)))
 
 pub parse-content-spec : {M : Type 1} → statement M
 parse-content-spec =

@@ -79,7 +79,7 @@ returns-3 c =
         ← (f .before .before .read-flag .ensures),
         f .alternate-data .given .1,
         ← (k .before .before .read-element-count .ensures),
-        k .element-count .given .1,
+        k .count .given .1,
         rw (begun w) at (e .parse-elements .ensures .same),
         length-map (entry w .args .kinds .now) kindOf,
         ← (w .write-starts .ensures),

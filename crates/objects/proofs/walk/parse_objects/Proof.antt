@@ -16,18 +16,18 @@ use Rattle.objects.proofs.walk.parse_objects.Statement.{statement}
 use Rattle.objects.proofs.walk.parse_objects.Tie as tie
 
 abbrev Inv-loop : tie.InvT-loop
-Inv-loop payload limit kinds m start blocks₀ n place₀ object₀ blocks place object =
+Inv-loop payload limit kinds m start blocks₀ place₀ object₀ end blocks place object =
     (object ≤ length kinds) × Filling (m * length kinds * rowWidth) (objectsFrom (length kinds) m start 0 (map kindOf kinds) blocks₀ payload (limit .0) (place₀ .0)) blocks₀ (objectsLeft m kinds start payload (limit .0) object blocks (place .0)) blocks
 
 abbrev μ-loop : tie.MeasureT-loop
-μ-loop payload limit kinds m start blocks₀ n place₀ object₀ blocks place object = n - object
+μ-loop payload limit kinds m start blocks₀ place₀ object₀ end blocks place object = length kinds - object
 
 -- what the call read is the next object
 object-said : (c : tie.After-parse-object Inv-loop μ-loop) →
     let a = c .before .before .before .before .before .before .before .before .args in
     let l = c .before .before .before .before .before .loop in
     let n = length (a .kinds .now) in
-    Fills (a .block-count * n * rowWidth) (columnFrom n (l .object) (kindOf (getD (a .kinds .now) (l .object) 0)) (a .block-count) 0 (rowAt (a .start .now) (l .object * rowWidth)) (l .blocks) (a .payload .now) (a .limit .0) (l .place .0)) (l .blocks) (c .parse-object .result) (c .parse-object .last .1 .1 .1 .1 .1 .1 .1 .1 .0)
+    Fills (a .block-count * n * rowWidth) (columnFrom n (l .object) (kindOf (getD (a .kinds .now) (l .object) 0)) (a .block-count) 0 (rowAt (a .start .now) (l .object * rowWidth)) (l .blocks) (a .payload .now) (a .limit .0) (l .place .0)) (l .blocks) (c .parse-object .result) (c .parse-object .last .1 .1 .1 .1 .1 .1 .0)
 unfolding rowWidth
 object-said c = rw (← (c .before .before .before .row-at .ensures)) (c .parse-object .ensures)
 

@@ -6,14 +6,19 @@ use mathlib.Core.List.{List}
 use mathlib.Core.Option.{Option}
 use native.Mathlib.Omega.{arith}
 use lib.IntN.{ℤ}
-use Rattle.bits.specs.Parsed.{Parsed, got, andThen, _>>=_, pure}
+use Rattle.bits.specs.Parsed.{Parsed, got, refused, andThen, _>>=_, _>>_, pure, within, goTo}
+use Rattle.bits.specs.Say.{refusal}
 use Rattle.bits.specs.declared.BitPlace.{BitPlace}
 use Rattle.bits.specs.declared.Refusal.{Refusal}
 use Rattle.standard.specs.Tree.{Kind}
 use Rattle.standard.specs.Rows.{Row}
-use Rattle.oamd.specs.Frame.{Frame, elementIn, elementsIn}
-use Rattle.oamd.specs.Reading.{Behind, framed, Framing, lentFrame}
-use Rattle.oamd.specs.Say.{saidFound, saidElements}
+use Rattle.oamd.specs.Head.{elementHead}
+use Rattle.oamd.specs.Frame.{Frame, contentIn, elementIn, elementsIn}
+use Rattle.oamd.specs.Reading.{Behind, Framing, lentFrame}
+use Rattle.oamd.specs.Say.{saidHead, saidRead, saidFound, saidElements}
+use Rattle.oamd.specs.declared.element.Head.{Head}
+use Rattle.oamd.specs.declared.element.ReadHead.{ReadHead}
+use Rattle.oamd.specs.declared.element.ReadHead.the-variants as head
 use Rattle.oamd.specs.declared.content.Found.{Found}
 use Rattle.oamd.specs.declared.content.Elements.{Elements}
 use Rattle.oamd.specs.declared.content.Elements.the-variants as elements
@@ -31,16 +36,26 @@ module _ {starts : List Row} {n : ℕ} {alternated : Bool} {kinds : List Kind} {
   begin = let k : n - 0 ≡ n = omega arith in record { few = omega arith; same = rw k; behind = kept }
 
   module _ {m₀ : Parsed Frame} {b₀ b : List ℤ} {t₀ t : List ℕ} {i p : ℕ} {o : Option ℕ} (g : Going starts n alternated kinds s e m₀ b₀ t₀ i o b t p) where
-    module _ (h : i < n) {r : Elements} {b′ : List ℤ} {t′ : List ℕ} (f : Framing (elementIn starts alternated kinds (lentFrame o b t) s e p) (saidElements r) b b′ t t′) where
-      went : {r′ : Elements} → r ≡ r′ → m₀ ≡ andThen (framed (saidElements r′) b′ t′) (λ f′ q. elementsIn starts (n - (i + 1)) alternated kinds f′ s e q)
+    module _ (h : i < n) where
+      went : m₀ ≡ andThen (elementIn starts alternated kinds (lentFrame o b t) s e p) (λ f q. elementsIn starts (n - (i + 1)) alternated kinds f s e q)
       unfolding elementsIn _>>=_
-      went x = let k : n - i ≡ suc (n - (i + 1)) = omega arith in g .same ∙ rw (k, f .same, x)
+      went = let k : n - i ≡ suc (n - (i + 1)) = omega arith in g .same ∙ rw k
 
-      pub next : {found : Found} {q : BitPlace} → r ≡ elements.Read found q → Going starts n alternated kinds s e m₀ b₀ t₀ (i + 1) (saidFound found) b′ t′ (q .0)
-      next x = record { few = omega arith; same = went x; behind = both (g .behind) (f .behind) }
+      -- the head of the next element was refused
+      pub no-head : {r : ReadHead} {y : Refusal} → saidRead r ≡ elementHead alternated s e p → r ≡ head.Refused y → Framing m₀ (refused (refusal y)) b₀ b t₀ t
+      unfolding elementIn _>>=_
+      no-head a x = record { same = went ∙ rw (← a, x); behind = g .behind }
 
-      pub stop : {y : Refusal} → r ≡ elements.Refused y → Framing m₀ (saidElements r) b₀ b′ t₀ t′
-      stop x = record { same = went x ∙ rw x; behind = both (g .behind) (f .behind) }
+      -- and its content was read, or refused
+      module _ {r : ReadHead} {k : Head} (a : saidRead r ≡ elementHead alternated s e p) (x : r ≡ head.Is k) {r′ : Elements} {b′ : List ℤ} {t′ : List ℕ}
+          (f : Framing (contentIn starts kinds (saidHead k) (lentFrame o b t) s (k .end .0) (k .content .0)) (saidElements r′) b b′ t t′) where
+        pub next : {found : Found} {q : BitPlace} → r′ ≡ elements.Read found q → Going starts n alternated kinds s e m₀ b₀ t₀ (i + 1) (saidFound found) b′ t′ (k .end .0)
+        unfolding elementIn _>>=_ _>>_ pure within goTo
+        next y = record { few = omega arith; same = went ∙ rw (← a, x, f .same, y); behind = both (g .behind) (f .behind) }
+
+        pub stop : {y : Refusal} → r′ ≡ elements.Refused y → Framing m₀ (refused (refusal y)) b₀ b′ t₀ t′
+        unfolding elementIn _>>=_ _>>_ within
+        stop y = record { same = went ∙ rw (← a, x, f .same, y); behind = both (g .behind) (f .behind) }
 
     pub done : n ≤ i → Framing m₀ (got o p) b₀ b t₀ t
     unfolding elementsIn pure

@@ -13,7 +13,7 @@ use Rattle.standard.specs.Tree.{Kind, Tree}
 use Rattle.standard.specs.Rows.{Row}
 use Rattle.standard.specs.Contexts as context
 use Rattle.standard.specs.Syntax.{objectElement, elementSize, alternate, once, content, element, elements}
-use Rattle.oamd.specs.Head.{elementEnd, enter, elementHead}
+use Rattle.oamd.specs.Head.{Head, elementEnd, enter, elementHead}
 use Rattle.oamd.specs.Frame.{Frame, writtenBy, onceIn, endIn, objectIn, trimIn, contentIn, elementIn, elementsIn}
 
 -- the frame tables after the object element, if one was found
@@ -21,11 +21,12 @@ unfoldable pub frameOf : List Row → Frame → Option Tree → Frame
 frameOf starts f none = f
 frameOf starts f (some t) = writtenBy starts f t
 
--- An element, its content c of the id: in the paper's order, and after its head
+-- An element, its content c of the head: in the paper's order, and after its head
 
-module _ {A : Type 0} (alternated : Bool) (c : ℕ → Parser A) where
+module _ {A : Type 0} (alternated : Bool) (c : Head → Parser A) where
   abbrev inOrder : Parser A
   inOrder = do
+    at ← here
     id ← read 4 context.element-id
     bytes ← elementSize
     start ← here
@@ -34,14 +35,14 @@ module _ {A : Type 0} (alternated : Bool) (c : ℕ → Parser A) where
     a ← within (start + bytes * 8) do
       alternate alternated
       flag context.discard-unknown-element-flag
-      c id
+      c (record { at = at; id = id; end = start + bytes * 8 })
     goTo (start + bytes * 8)
     pure a
 
   abbrev afterHead : Parser A
   afterHead = do
     h ← elementHead alternated
-    a ← within (h .end) (c (h .id))
+    a ← within (h .end) (c h)
     goTo (h .end)
     pure a
 
@@ -67,19 +68,19 @@ module _ (starts : List Row) (kinds : List Kind) (f : Frame) where
   once-in z at none = rw z (mapped some {m = objectElement kinds} (record { makes = λ s e p. refl }))
   once-in z at (some t) = none-made _
 
-  content-in : f .found ≡ none → (at id : ℕ) (o : Option Tree) → Makes after-tree (content kinds at id o) (contentIn starts kinds at id (after-tree o))
+  content-in : f .found ≡ none → (h : Head) (o : Option Tree) → Makes after-tree (content kinds (h .at) (h .id) o) (contentIn starts kinds h (after-tree o))
   unfolding content contentIn objectIn trimIn endIn
-  content-in z at id o =
-      choose (eqb id 1) (bind _ _ (once-in z at o) λ o′. next _ (given o′)) (choose (eqb id 2) (next _ (next _ (given o))) (given o))
+  content-in z h o =
+      choose (eqb (h .id) 1) (bind _ _ (once-in z (h .at) o) λ o′. next _ (given o′)) (choose (eqb (h .id) 2) (next _ (next _ (given o))) (given o))
 
   element-in : f .found ≡ none → (alternated : Bool) (o : Option Tree) → Makes after-tree (element alternated kinds o) (elementIn starts alternated kinds (after-tree o))
   unfolding element elementIn
-  element-in z alternated o = after _ _ _ λ at. record { makes = λ s e p. head-first alternated _ s e p ∙ ordered at .makes s e p }
+  element-in z alternated o = record { makes = λ s e p. head-first alternated _ s e p ∙ ordered .makes s e p }
     where
-      ordered : (at : ℕ) → Makes after-tree (inOrder alternated (λ id. content kinds at id o)) (inOrder alternated (λ id. contentIn starts kinds at id (after-tree o)))
-      ordered at =
-          after _ _ _ λ id. after _ _ _ λ bytes. after _ _ _ λ start. after _ _ _ λ end.
-          next _ (bind _ _ (inside _ (next _ (next _ (content-in z at id o)))) λ o′. next _ (given o′))
+      ordered : Makes after-tree (inOrder alternated (λ h. content kinds (h .at) (h .id) o)) (inOrder alternated (λ h. contentIn starts kinds h (after-tree o)))
+      ordered =
+          after _ _ _ λ at. after _ _ _ λ id. after _ _ _ λ bytes. after _ _ _ λ start. after _ _ _ λ end.
+          next _ (bind _ _ (inside _ (next _ (next _ (content-in z _ o)))) λ o′. next _ (given o′))
 
   pub elements-in : f .found ≡ none → (n : ℕ) (alternated : Bool) (o : Option Tree) → Makes after-tree (elements n alternated kinds o) (elementsIn starts n alternated kinds (after-tree o))
   unfolding elements elementsIn

@@ -6,7 +6,7 @@ use mathlib.Core.List.{List, [], _∷_, map}
 use native.Mathlib.Omega.{arith}
 use borrow.Author.Tests.{le-leb}
 use lib.IntN.{ℤ}
-use lib.ListN.{length}
+use lib.ListN.{length, take}
 use Rattle.bits.specs.Parsed.{Refusal, Parsed, got, refused, mapParsed}
 use Rattle.bits.specs.Say.{refusal}
 use Rattle.bits.specs.declared.Refusal as said
@@ -20,20 +20,19 @@ use Rattle.assignment.specs.Kinds.{Assigned}
 use Rattle.assignment.proofs.Laws.{listed}
 use Rattle.update.specs.Kinds.{kindOf}
 use Rattle.update.proofs.KindLaws.{kind-of-code}
-use Rattle.objects.specs.Walk.{kindsIn}
 use Rattle.oamd.specs.Whole.{Whole, Lending, payloadIn, wholeOf}
 use Rattle.oamd.specs.Telling.{Telling, outcome}
 use Rattle.oamd.specs.declared.payload.Payload.the-variants.{Refused}
 use Rattle.oamd.proofs.ElementsFraming.{kept}
 use Rattle.oamd.proofs.Whole.{payload-in}
 
--- The kinds: what the codes that were left name
+-- The kinds: what the first n codes that were left name
 
 codes-kinds : (ks : List Kind) → map kindOf (map kindCode ks) ≡ ks
 codes-kinds [] = refl
 codes-kinds (k ∷ ks) = λ i. kind-of-code k i ∷ codes-kinds ks i
 
-pub kinds-read : {m : Parsed (List Kind)} {n : ℕ} {before after : List ℕ} {p : ℕ} → Assigned m n (got tt p) before after → m ≡ got (kindsIn n after) p
+pub kinds-read : {m : Parsed (List Kind)} {n : ℕ} {before after : List ℕ} {p : ℕ} → Assigned m n (got tt p) before after → m ≡ got (map kindOf (take n after)) p
 kinds-read a = let l = listed a in l .gives ∙ rw (l .begins, codes-kinds (l .kinds))
 
 -- Nothing was written

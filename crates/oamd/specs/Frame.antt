@@ -6,7 +6,7 @@ use mathlib.Core.Option.{Option, none, some}
 use lib.Dec.{eqb}
 use lib.IntN.{ℤ}
 use lib.ListN.{length}
-use Rattle.bits.specs.Parsed.{Parser, _>>=_, _>>_, mapP, pure, refuse, within, here, goTo, invalid}
+use Rattle.bits.specs.Parsed.{Parser, _>>=_, _>>_, mapP, pure, refuse, within, goTo, invalid}
 use Rattle.bits.specs.Reads.{padding}
 use Rattle.standard.specs.Contexts as context
 use Rattle.standard.specs.Tree.{Kind, Tree}
@@ -15,7 +15,7 @@ use Rattle.standard.specs.Meaning.{allRows}
 use Rattle.standard.specs.Tables.{rowsNumbers, byBlock, timingNumbers}
 use Rattle.standard.specs.Calls.{over}
 use Rattle.standard.specs.Syntax.{objectElement, trim}
-use Rattle.oamd.specs.Head.{elementHead}
+use Rattle.oamd.specs.Head.{Head, elementHead}
 
 -- the number of blocks, once an object element was read, and the frame tables
 pub record Frame : Type 0 where
@@ -53,14 +53,14 @@ trimIn count f = do
   trim count
   endIn f
 
-unfoldable pub contentIn : List Row → List Kind → ℕ → ℕ → Frame → Parser Frame
-contentIn starts kinds at id f = cond (eqb id 1) (objectIn starts kinds at f) (cond (eqb id 2) (trimIn (length kinds) f) (pure f))
+unfoldable pub contentIn : List Row → List Kind → Head → Frame → Parser Frame
+contentIn starts kinds h f =
+    cond (eqb (h .id) 1) (objectIn starts kinds (h .at) f) (cond (eqb (h .id) 2) (trimIn (length kinds) f) (pure f))
 
 unfoldable pub elementIn : List Row → Bool → List Kind → Frame → Parser Frame
 elementIn starts alternated kinds f = do
-  at ← here
   h ← elementHead alternated
-  f′ ← within (h .end) (contentIn starts kinds at (h .id) f)
+  f′ ← within (h .end) (contentIn starts kinds h f)
   goTo (h .end)
   pure f′
 

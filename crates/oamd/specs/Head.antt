@@ -23,13 +23,16 @@ enter alternated = do
   flag context.discard-unknown-element-flag
   pure tt
 
+-- where an element begins, its id, and where it ends
 pub record Head : Type 0 where
+  pub at : ℕ
   pub id : ℕ
   pub end : ℕ
 
 unfoldable pub elementHead : Bool → Parser Head
 elementHead alternated = do
+  at ← here
   id ← read 4 context.element-id
   end ← elementEnd
   within end (enter alternated)
-  pure (record { id = id; end = end })
+  pure (record { at = at; id = id; end = end })

@@ -7,7 +7,8 @@ use Rattle.oamd.specs.Head as paper
 use Rattle.oamd.specs.declared.element.ElementEnd.{ElementEnd}
 use Rattle.oamd.specs.declared.element.ElementEnd.the-variants as end
 use Rattle.oamd.specs.declared.element.Head.{Head}
-use Rattle.oamd.specs.declared.element.Head.the-variants as head
+use Rattle.oamd.specs.declared.element.ReadHead.{ReadHead}
+use Rattle.oamd.specs.declared.element.ReadHead.the-variants as head
 use Rattle.oamd.specs.declared.content.Found.{Found}
 use Rattle.oamd.specs.declared.content.Found.the-variants as found
 use Rattle.oamd.specs.declared.content.Elements.{Elements}
@@ -17,9 +18,12 @@ abbrev pub saidEnd : ElementEnd → Parsed ℕ
 saidEnd (end.At e p) = got (e .0) (p .0)
 saidEnd (end.Refused r) = refused (refusal r)
 
-abbrev pub saidHead : Head → Parsed paper.Head
-saidHead (head.Of i e p) = got (record { id = i; end = e .0 }) (p .0)
-saidHead (head.Refused r) = refused (refusal r)
+abbrev pub saidHead : Head → paper.Head
+saidHead h = record { at = h .at .0; id = h .id; end = h .end .0 }
+
+abbrev pub saidRead : ReadHead → Parsed paper.Head
+saidRead (head.Is h) = got (saidHead h) (h .content .0)
+saidRead (head.Refused r) = refused (refusal r)
 
 abbrev pub saidFound : Found → Option ℕ
 saidFound found.Nothing = none

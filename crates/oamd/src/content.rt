@@ -1,15 +1,17 @@
 // The content of an element, by its id; what is left of the element is zero.
 ghost use mathlib.Core.Path.{_≡_};
-ghost use mathlib.Core.List.{List};
+ghost use mathlib.Core.List.{List, map};
 ghost use lib.IntN.{ℤ};
+ghost use lib.ListN.{length};
 ghost use Prim.Native.Nat.{ℕ};
 ghost use Rattle.standard.specs.Tables.{rowsOf};
+ghost use Rattle.update.specs.Kinds.{kindOf};
 ghost use Rattle.objects.specs.Element.{Room};
-ghost use Rattle.objects.specs.Walk.{kindsIn};
 ghost use Rattle.oamd.specs.Frame.{endIn, objectIn, trimIn, contentIn};
 ghost use Rattle.oamd.specs.Reading.{Framing, framed, lentFrame};
-ghost use Rattle.oamd.specs.Say.{saidFound, saidElements};
+ghost use Rattle.oamd.specs.Say.{saidHead, saidFound, saidElements};
 use crate::contexts;
+use crate::element::Head;
 use crate::trim::parse_trim_element;
 use bits::BitPlace;
 use bits::Passed;
@@ -35,86 +37,67 @@ pub enum Elements {
 
 pub fn parse_content(
     payload: &[u8],
-    element_end: BitPlace,
-    at: BitPlace,
-    element_id: u32,
-    id_at: BitPlace,
+    head: Head,
     kinds: &[u8],
-    object_count: usize,
     start: &[i16],
     found: Found,
     blocks: &mut [i16],
     timings: &mut [u16],
 ) -> Elements
-    requires { ⌜ Room «object_count» (now kinds) (now start) (now blocks) (now timings) ⌝ }
-    ensures { λ r. ⌜ Framing (contentIn (rowsOf «object_count» (now (start .entry))) (kindsIn «object_count» (now (kinds .entry))) («id_at» .0) «element_id» (lentFrame (saidFound found) (now (blocks .entry)) (now (timings .entry))) (now (payload .entry)) («element_end» .0) (at .0)) (saidElements r) (now (blocks .entry)) (now (blocks .exit)) (now (timings .entry)) (now (timings .exit)) ⌝ }
+    requires { ⌜ Room (length (now kinds)) (now start) (now blocks) (now timings) ⌝ }
+    ensures { λ r. ⌜ Framing (contentIn (rowsOf (length (now (kinds .entry))) (now (start .entry))) (map kindOf (now (kinds .entry))) (saidHead head) (lentFrame (saidFound found) (now (blocks .entry)) (now (timings .entry))) (now (payload .entry)) (head .end .0) (head .content .0)) (saidElements r) (now (blocks .entry)) (now (blocks .exit)) (now (timings .entry)) (now (timings .exit)) ⌝ }
 {
-    match element_id {
-        OBJECT_ELEMENT_ID => parse_object_content(
-            payload,
-            element_end,
-            at,
-            id_at,
-            kinds,
-            object_count,
-            start,
-            found,
-            blocks,
-            timings,
-        ),
-        TRIM_ELEMENT_ID => parse_trim_content(payload, element_end, at, object_count, found),
+    let id = head.id;
+    match id {
+        OBJECT_ELEMENT_ID => {
+            parse_object_content(payload, head, kinds, start, found, blocks, timings)
+        }
+        TRIM_ELEMENT_ID => parse_trim_content(payload, head, kinds.len(), found),
         // What an unknown element holds is free.
-        _ => Elements::Read(found, at),
+        _ => {
+            let at = head.content;
+            Elements::Read(found, at)
+        }
     }
 }
 
 fn parse_object_content(
     payload: &[u8],
-    element_end: BitPlace,
-    at: BitPlace,
-    id_at: BitPlace,
+    head: Head,
     kinds: &[u8],
-    object_count: usize,
     start: &[i16],
     found: Found,
     blocks: &mut [i16],
     timings: &mut [u16],
 ) -> Elements
-    requires { ⌜ Room «object_count» (now kinds) (now start) (now blocks) (now timings) ⌝ }
-    ensures { λ r. ⌜ Framing (objectIn (rowsOf «object_count» (now (start .entry))) (kindsIn «object_count» (now (kinds .entry))) («id_at» .0) (lentFrame (saidFound found) (now (blocks .entry)) (now (timings .entry))) (now (payload .entry)) («element_end» .0) (at .0)) (saidElements r) (now (blocks .entry)) (now (blocks .exit)) (now (timings .entry)) (now (timings .exit)) ⌝ }
+    requires { ⌜ Room (length (now kinds)) (now start) (now blocks) (now timings) ⌝ }
+    ensures { λ r. ⌜ Framing (objectIn (rowsOf (length (now (kinds .entry))) (now (start .entry))) (map kindOf (now (kinds .entry))) (head .at .0) (lentFrame (saidFound found) (now (blocks .entry)) (now (timings .entry))) (now (payload .entry)) (head .end .0) (head .content .0)) (saidElements r) (now (blocks .entry)) (now (blocks .exit)) (now (timings .entry)) (now (timings .exit)) ⌝ }
 {
     let Found::Nothing = found else {
-        return Elements::Refused(Refusal::invalid(contexts::DUPLICATE_OBJECT_ELEMENT, id_at));
+        return Elements::Refused(Refusal::invalid(contexts::DUPLICATE_OBJECT_ELEMENT, head.at));
     };
     match parse_object_element(
         payload,
-        element_end,
-        at,
+        head.end,
+        head.content,
         kinds,
-        object_count,
         start,
         blocks,
         timings,
     ) {
         Element::Refused(refusal) => Elements::Refused(refusal),
         Element::Blocks(block_count, next) => {
-            end_element(payload, element_end, next, Found::Blocks(block_count))
+            end_element(payload, head.end, next, Found::Blocks(block_count))
         }
     }
 }
 
-fn parse_trim_content(
-    payload: &[u8],
-    element_end: BitPlace,
-    at: BitPlace,
-    object_count: usize,
-    found: Found,
-) -> Elements
-    ensures { λ r. ⌜ ((b : List ℤ) (t : List ℕ) → trimIn «object_count» (lentFrame (saidFound found) b t) (now (payload .entry)) («element_end» .0) (at .0) ≡ framed (saidElements r) b t) ⌝ }
+fn parse_trim_content(payload: &[u8], head: Head, object_count: usize, found: Found) -> Elements
+    ensures { λ r. ⌜ ((b : List ℤ) (t : List ℕ) → trimIn «object_count» (lentFrame (saidFound found) b t) (now (payload .entry)) (head .end .0) (head .content .0) ≡ framed (saidElements r) b t) ⌝ }
 {
-    match parse_trim_element(payload, element_end, at, object_count) {
+    match parse_trim_element(payload, head.end, head.content, object_count) {
         Passed::Refused(refusal) => Elements::Refused(refusal),
-        Passed::To(next) => end_element(payload, element_end, next, found),
+        Passed::To(next) => end_element(payload, head.end, next, found),
     }
 }
 

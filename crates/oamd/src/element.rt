@@ -4,7 +4,7 @@ ghost use Prim.Native.Nat.{_<_, _^_};
 ghost use Rattle.bits.specs.Say.{said, saidPassed};
 ghost use Rattle.standard.specs.Syntax as paper;
 ghost use Rattle.oamd.specs.Head.{elementEnd, enter, elementHead};
-ghost use Rattle.oamd.specs.Say.{saidEnd, saidHead};
+ghost use Rattle.oamd.specs.Say.{saidEnd, saidRead};
 use crate::contexts;
 use bits::BitPlace;
 use bits::ByteCount;
@@ -16,9 +16,16 @@ use cursor::read_extended;
 
 const MAX_OAMD_ELEMENTS: u32 = 31;
 
-// The id, the place where the element ends, and the place of its content.
-pub enum Head {
-    Of(u32, BitPlace, BitPlace),
+// The id, the place where it stands, where the element ends, and where its content begins.
+pub struct Head {
+    pub id: u32,
+    pub at: BitPlace,
+    pub end: BitPlace,
+    pub content: BitPlace,
+}
+
+pub enum ReadHead {
+    Is(Head),
     Refused(Refusal),
 }
 
@@ -55,18 +62,23 @@ pub fn read_element_head(
     limit: BitPlace,
     at: BitPlace,
     alternate_data: bool,
-) -> Head
+) -> ReadHead
     requires { ⌜ limit .0 < 2 ^ 32 ⌝ }
-    ensures { λ r. ⌜ saidHead r ≡ elementHead «alternate_data» (now (payload .entry)) (limit .0) (at .0) ⌝ }
+    ensures { λ r. ⌜ saidRead r ≡ elementHead «alternate_data» (now (payload .entry)) (limit .0) (at .0) ⌝ }
 {
     match bits::read(payload, limit, at, 4, contexts::ELEMENT_ID) {
-        Number::Refused(refusal) => Head::Refused(refusal),
-        Number::Value(element_id, size_at) => match read_element_end(payload, limit, size_at) {
-            ElementEnd::Refused(refusal) => Head::Refused(refusal),
-            ElementEnd::At(element_end, inside) => {
-                match enter_element(payload, element_end, inside, alternate_data) {
-                    Passed::Refused(refusal) => Head::Refused(refusal),
-                    Passed::To(content) => Head::Of(element_id, element_end, content),
+        Number::Refused(refusal) => ReadHead::Refused(refusal),
+        Number::Value(id, size_at) => match read_element_end(payload, limit, size_at) {
+            ElementEnd::Refused(refusal) => ReadHead::Refused(refusal),
+            ElementEnd::At(end, inside) => {
+                match enter_element(payload, end, inside, alternate_data) {
+                    Passed::Refused(refusal) => ReadHead::Refused(refusal),
+                    Passed::To(content) => ReadHead::Is(Head {
+                        id,
+                        at,
+                        end,
+                        content,
+                    }),
                 }
             }
         },

@@ -1,14 +1,14 @@
 // The whole payload, read into the lent frame tables. A refusal leaves them half written: the caller clears them.
-ghost use mathlib.Core.List.{List};
+ghost use mathlib.Core.List.{List, map};
 ghost use mathlib.Core.Path.{_≡_};
 ghost use Prim.Native.Nat.{ℕ, _*_, _<_, _≤_, _^_};
 ghost use lib.IntN.{ℤ};
 ghost use lib.ListN.{length};
 ghost use Rattle.bits.specs.Parsed.{andThen};
-ghost use Rattle.standard.specs.Numbers.{payloadLimit};
+ghost use Rattle.standard.specs.Numbers.{payloadLimit, objectLimit};
 ghost use Rattle.standard.specs.Tables.{stateOf};
-ghost use Rattle.objects.specs.Walk.{kindsIn};
-ghost use Rattle.oamd.specs.Asked.{Held, Coded, Roomy};
+ghost use Rattle.update.specs.Kinds.{kindOf};
+ghost use Rattle.oamd.specs.Asked.{Held, Roomy};
 ghost use Rattle.oamd.specs.Whole.{finishIn, bodyIn, payloadIn};
 ghost use Rattle.oamd.specs.Reading.{framed};
 ghost use Rattle.oamd.specs.Telling.{Telling, lending, outcome, saidPayload};
@@ -17,6 +17,7 @@ use crate::content::Elements;
 use crate::content::Found;
 use crate::contexts;
 use crate::element::read_element_count;
+use crate::elements::ElementList;
 use crate::elements::parse_elements;
 use crate::starts::write_starts;
 use assignment::parse_program_assignment;
@@ -60,8 +61,7 @@ pub fn parse_payload(
                         payload,
                         limit,
                         next,
-                        &kinds,
-                        object_count,
+                        &kinds[0..object_count],
                         retained,
                         start,
                         blocks,
@@ -79,34 +79,27 @@ fn parse_body(
     limit: BitPlace,
     at: BitPlace,
     kinds: &[u8],
-    object_count: usize,
     retained: &[i16],
     start: &mut [i16],
     blocks: &mut [i16],
     timings: &mut [u16],
 ) -> Payload
-    requires { ⌜ (limit .0 < 2 ^ 32) × (Coded «object_count» (now kinds) × (Held (now retained) × Roomy (now start) (now blocks) (now timings))) ⌝ }
-    ensures { λ r. ⌜ Telling (bodyIn (stateOf (now (retained .entry))) (lending (now (start .entry)) (now (blocks .entry)) (now (timings .entry))) (kindsIn «object_count» (now (kinds .entry))) (now (payload .entry)) (limit .0) (at .0)) r (now (start .entry)) (now (start .exit)) (now (blocks .entry)) (now (blocks .exit)) (now (timings .entry)) (now (timings .exit)) ⌝ }
+    requires { ⌜ (limit .0 < 2 ^ 32) × ((length (now kinds) ≤ objectLimit) × (Held (now retained) × Roomy (now start) (now blocks) (now timings))) ⌝ }
+    ensures { λ r. ⌜ Telling (bodyIn (stateOf (now (retained .entry))) (lending (now (start .entry)) (now (blocks .entry)) (now (timings .entry))) (map kindOf (now (kinds .entry))) (now (payload .entry)) (limit .0) (at .0)) r (now (start .entry)) (now (start .exit)) (now (blocks .entry)) (now (blocks .exit)) (now (timings .entry)) (now (timings .exit)) ⌝ }
 {
     match bits::read_flag(payload, limit, at, contexts::ALTERNATE_OBJECT_DATA_FLAG) {
         Flag::Refused(refusal) => Payload::Refused(refusal),
         Flag::Is(alternate_data, count_at) => match read_element_count(payload, limit, count_at) {
             Number::Refused(refusal) => Payload::Refused(refusal),
-            Number::Value(element_count, next) => {
-                write_starts(retained, kinds, object_count, start);
-                let elements = parse_elements(
-                    payload,
-                    limit,
-                    next,
-                    element_count,
+            Number::Value(count, first) => {
+                write_starts(retained, kinds, start);
+                let list = ElementList {
+                    count,
+                    first,
                     alternate_data,
-                    kinds,
-                    object_count,
-                    start,
-                    blocks,
-                    timings,
-                );
-                end_payload(payload, limit, object_count as u32, elements)
+                };
+                let elements = parse_elements(payload, limit, list, kinds, start, blocks, timings);
+                end_payload(payload, limit, kinds.len() as u32, elements)
             }
         },
     }

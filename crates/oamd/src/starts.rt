@@ -1,50 +1,53 @@
 // The start rows: the retained ones where the kinds are the same, default ones where they are not.
 ghost use mathlib.Core.Path.{_≡_};
 ghost use mathlib.Core.Bool.{cond};
+ghost use mathlib.Core.List.{map};
 ghost use Prim.Native.Nat.{_+_, _*_, _<_, _≤_};
 ghost use lib.IntN.{pos};
 ghost use lib.ListN.{length, getD};
 ghost use Rattle.standard.specs.Numbers.{rowWidth, objectLimit, retainedHead, startLength};
-ghost use Rattle.standard.specs.Tree.{kindCode};
+ghost use Rattle.standard.specs.Tree.{kindCode, kindNumber};
 ghost use Rattle.standard.specs.Rows.{is};
+ghost use Rattle.standard.specs.Marks.{doubted};
 ghost use Rattle.standard.specs.Meaning.{heldRow, defaultRow, sameKinds, startRows};
 ghost use Rattle.standard.specs.Tables.{rowsNumbers, stateOf};
 ghost use Rattle.standard.specs.Calls.{over};
 ghost use Rattle.rows.specs.Say.{rowSaid};
 ghost use Rattle.rows.specs.Places.{rowAt};
 ghost use Rattle.update.specs.Kinds.{kindOf};
-ghost use Rattle.objects.specs.Walk.{kindsIn};
-ghost use Rattle.oamd.specs.Asked.{Held, Coded};
+ghost use Rattle.oamd.specs.Asked.{Held};
+use rows::numbers::PRIORITY_LIMIT;
 use rows::numbers::RETAINED_HEAD;
 use rows::numbers::ROW_WIDTH;
+use rows::numbers::SETTLED;
+use rows::numbers::UNSETTLED;
 use rows::retained::count_of;
 use rows::row::DYNAMIC;
 use rows::row::Row;
+use rows::row::default_picture;
 use rows::table::kind_at;
 use rows::table::put_row;
 use rows::table::row_at;
-use update::default_row;
-use update::held_row;
 
-pub fn write_starts(retained: &[i16], kinds: &[u8], object_count: usize, start: &mut [i16])
-    requires { ⌜ Held (now retained) × (Coded «object_count» (now kinds) × (startLength ≤ length (now start))) ⌝ }
-    ensures { λ _. ⌜ now (start .exit) ≡ over (rowsNumbers (startRows (stateOf (now (retained .entry))) (kindsIn «object_count» (now (kinds .entry))))) (now (start .entry)) ⌝ }
+pub fn write_starts(retained: &[i16], kinds: &[u8], start: &mut [i16])
+    requires { ⌜ Held (now retained) × ((length (now kinds) ≤ objectLimit) × (startLength ≤ length (now start))) ⌝ }
+    ensures { λ _. ⌜ now (start .exit) ≡ over (rowsNumbers (startRows (stateOf (now (retained .entry))) (map kindOf (now (kinds .entry))))) (now (start .entry)) ⌝ }
 {
-    let held = same_kinds(retained, kinds, object_count);
-    for object in 0..object_count {
+    let held = same_kinds(retained, kinds);
+    for object in 0..kinds.len() {
         let row = start_row(retained, object, kinds[object], held);
         put_row(start, object * ROW_WIDTH, row);
     }
 }
 
-fn same_kinds(retained: &[i16], kinds: &[u8], object_count: usize) -> bool
-    requires { ⌜ Held (now retained) × Coded «object_count» (now kinds) ⌝ }
-    ensures { λ r. ⌜ r ≡ sameKinds (kindsIn «object_count» (now (kinds .entry))) (stateOf (now (retained .entry)) .rows) ⌝ }
+fn same_kinds(retained: &[i16], kinds: &[u8]) -> bool
+    requires { ⌜ Held (now retained) × (length (now kinds) ≤ objectLimit) ⌝ }
+    ensures { λ r. ⌜ r ≡ sameKinds (map kindOf (now (kinds .entry))) (stateOf (now (retained .entry)) .rows) ⌝ }
 {
-    if count_of(retained) != object_count {
+    if count_of(retained) != kinds.len() {
         return false;
     }
-    for object in 0..object_count {
+    for object in 0..kinds.len() {
         let kind = kind_at(retained, RETAINED_HEAD + object * ROW_WIDTH);
         if !is_kind(kind, kinds[object]) {
             return false;
@@ -53,14 +56,20 @@ fn same_kinds(retained: &[i16], kinds: &[u8], object_count: usize) -> bool
     true
 }
 
-// Any code above the fixed kinds is Dynamic.
 fn is_kind(kind: i16, code: u8) -> bool
     ensures { λ r. ⌜ r ≡ is (kindCode (kindOf code)) kind ⌝ }
 {
+    kind == kind_number(code)
+}
+
+// Any code above the fixed kinds is Dynamic.
+fn kind_number(code: u8) -> i16
+    ensures { λ r. ⌜ r ≡ kindNumber (kindOf code) ⌝ }
+{
     if code < DYNAMIC as u8 {
-        kind == code as i16
+        code as i16
     } else {
-        kind == DYNAMIC
+        DYNAMIC
     }
 }
 
@@ -75,4 +84,33 @@ fn start_row(retained: &[i16], object: usize, kind: u8, held: bool) -> Row
         return held_row(row, doubt);
     }
     default_row(kind, doubt)
+}
+
+fn held_row(mut row: Row, doubt: i16) -> Row
+    ensures { λ r. ⌜ rowSaid r ≡ heldRow doubt (rowSaid row) ⌝ }
+{
+    row.mark = doubted(doubt, row.mark);
+    row
+}
+
+// The row of an object that is new, or whose program has changed.
+fn default_row(kind: u8, doubt: i16) -> Row
+    ensures { λ r. ⌜ rowSaid r ≡ defaultRow doubt (kindOf kind) ⌝ }
+{
+    let picture = default_picture();
+    Row {
+        kind: kind_number(kind),
+        active: 1,
+        gain: 0,
+        priority: PRIORITY_LIMIT,
+        picture,
+        mark: doubted(doubt, SETTLED),
+    }
+}
+
+// In doubt no row is settled.
+fn doubted(doubt: i16, mark: i16) -> i16
+    ensures { λ r. ⌜ r ≡ doubted doubt mark ⌝ }
+{
+    if doubt == 0 { mark } else { UNSETTLED }
 }

@@ -1,13 +1,13 @@
 -- Turns of the loops over blocks and over objects.
 use Prim.Native.Nat.{ℕ, suc, _+_, _*_, _-_, _≤_, _<_}
-use mathlib.Core.Path.{_≡_, _∙_}
-use mathlib.Core.List.{List, [], _∷_}
+use mathlib.Core.Path.{_≡_, refl, _∙_}
+use mathlib.Core.List.{List, [], _∷_, map}
 use native.Mathlib.Numerals.{add-one}
 use native.Mathlib.Omega.{arith}
 use lib.Dec.{eqb}
 use lib.IntN.{ℤ}
-use lib.ListN.{length, getD, take, drop, length-map, drop-of-length-le, List·getD-map}
-use lib.Seq.{length-take-le, drop-cons, getD-take}
+use lib.ListN.{length, getD, drop, length-map, drop-of-length-le, List·getD-map}
+use lib.Seq.{drop-cons}
 use Rattle.bits.specs.Parsed.{Parsed, got, andThen, mapParsed, _>>=_, mapP, pure}
 use Rattle.bits.specs.declared.Passed.{Passed}
 use Rattle.standard.specs.Numbers.{rowWidth}
@@ -17,7 +17,7 @@ use Rattle.standard.specs.Rows.{Row}
 use Rattle.standard.specs.Meaning.{updated}
 use Rattle.rows.specs.Places.{rowAt, put}
 use Rattle.objects.specs.Fills.{Filling, leaving, Fills}
-use Rattle.objects.specs.Walk.{kindsIn, place, gainBefore, columnFrom, objectsFrom}
+use Rattle.objects.specs.Walk.{place, gainBefore, columnFrom, objectsFrom}
 use Rattle.rows.proofs.Puts.{length-put, drop-put}
 use Rattle.update.specs.Kinds.{kindOf}
 use Rattle.update.specs.Say.{saidRow}
@@ -53,32 +53,31 @@ put-within {N} {t = t} at r f h =
 
 -- All objects
 
-module _ (n : ℕ) (codes : List ℕ) (h : n ≤ length codes) where
-  pub kinds-length : length (kindsIn n codes) ≡ n
-  kinds-length = length-map (take n codes) kindOf ∙ length-take-le n codes h
+kinds-next : (codes : List ℕ) (o : ℕ) → o < length codes → drop o (map kindOf codes) ≡ kindOf (getD codes o 0) ∷ drop (o + 1) (map kindOf codes)
+kinds-next codes o h =
+    let e = length-map codes kindOf in
+    rw (add-one, drop-cons (map kindOf codes) o (kindOf 0) (omega arith), List·getD-map kindOf codes o 0)
 
-  kinds-next : (o : ℕ) → o < n → drop o (kindsIn n codes) ≡ kindOf (getD codes o 0) ∷ drop (o + 1) (kindsIn n codes)
-  kinds-next o l =
-      let e = kinds-length in
-      rw (add-one, drop-cons (kindsIn n codes) o (kindOf 0) (omega arith), List·getD-map kindOf (take n codes) o 0, getD-take n codes o 0 l)
+module _ (m : ℕ) (codes : List ℕ) (start : List ℤ) (s : List ℕ) (e : ℕ) where
+  -- the objects from o on
+  unfoldable pub objectsLeft : ℕ → List ℤ → ℕ → Parsed (List ℤ)
+  objectsLeft o t p = objectsFrom (length codes) m start o (drop o (map kindOf codes)) t s e p
 
-module _ (n m : ℕ) (codes : List ℕ) (start : List ℤ) (s : List ℕ) (e : ℕ) (h : n ≤ length codes) where
-  object-more : (o : ℕ) (t : List ℤ) (p : ℕ) → o < n
-      → objectsFrom n m start o (drop o (kindsIn n codes)) t s e p
-      ≡ andThen (columnFrom n o (kindOf (getD codes o 0)) m 0 (rowAt start (o * rowWidth)) t s e p) (λ t′ q. objectsFrom n m start (o + 1) (drop (o + 1) (kindsIn n codes)) t′ s e q)
-  unfolding objectsFrom _>>=_
-  object-more o t p l = rw (kinds-next n codes h o l, add-one)
+  pub objects-begun : (t : List ℤ) (p : ℕ) → objectsFrom (length codes) m start 0 (map kindOf codes) t s e p ≡ objectsLeft 0 t p
+  unfolding objectsLeft
+  objects-begun t p = refl
 
-  pub objects-done : (o : ℕ) (t : List ℤ) (p : ℕ) → n ≤ o → objectsFrom n m start o (drop o (kindsIn n codes)) t s e p ≡ got t p
-  unfolding objectsFrom pure
-  objects-done o t p l =
-      let k : drop o (kindsIn n codes) ≡ [] = drop-of-length-le (kindsIn n codes) {i = o} (omega (arith, kinds-length n codes h)) in
-      rw k
+  object-more : (o : ℕ) (t : List ℤ) (p : ℕ) → o < length codes
+      → objectsLeft o t p ≡ andThen (columnFrom (length codes) o (kindOf (getD codes o 0)) m 0 (rowAt start (o * rowWidth)) t s e p) (objectsLeft (o + 1))
+  unfolding objectsLeft objectsFrom _>>=_
+  object-more o t p h = rw (kinds-next codes o h, add-one)
+
+  pub objects-done : (o : ℕ) (t : List ℤ) (p : ℕ) → length codes ≤ o → objectsLeft o t p ≡ got t p
+  unfolding objectsLeft objectsFrom pure
+  objects-done o t p h = rw (drop-of-length-le (map kindOf codes) {i = o} (omega (arith, length-map codes kindOf)))
 
   -- object o was read in all its blocks, or refused
-  pub object-read : (N : ℕ) {m₀ : Parsed (List ℤ)} {t₀ t t′ : List ℤ} {r r′ : Passed} (o p : ℕ)
-      → Filling N m₀ t₀ (objectsFrom n m start o (drop o (kindsIn n codes)) t s e p) t → o < n
-      → Fills N (columnFrom n o (kindOf (getD codes o 0)) m 0 (rowAt start (o * rowWidth)) t s e p) t r t′ → r ≡ r′
-      → Filling N m₀ t₀ (andThen (leaving t′ r′) (λ t″ q. objectsFrom n m start (o + 1) (drop (o + 1) (kindsIn n codes)) t″ s e q)) t′
-  object-read N {t = t} {t′} o p f l g x =
-      on (leaving t′) (λ t″ q. objectsFrom n m start (o + 1) (drop (o + 1) (kindsIn n codes)) t″ s e q) (to f (object-more o t p l)) g (omega arith) x
+  pub object-read : (N : ℕ) {m₀ : Parsed (List ℤ)} {t₀ t t′ : List ℤ} {r r′ : Passed} (o p : ℕ) → Filling N m₀ t₀ (objectsLeft o t p) t → o < length codes
+      → Fills N (columnFrom (length codes) o (kindOf (getD codes o 0)) m 0 (rowAt start (o * rowWidth)) t s e p) t r t′ → r ≡ r′
+      → Filling N m₀ t₀ (andThen (leaving t′ r′) (objectsLeft (o + 1))) t′
+  object-read N {t = t} {t′} o p f h g x = on (leaving t′) (objectsLeft (o + 1)) (to f (object-more o t p h)) g (omega arith) x

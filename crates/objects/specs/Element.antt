@@ -51,9 +51,8 @@ saidElement (element.Blocks n p) = got n (p .0)
 saidElement (element.Refused r) = refused (refusal r)
 
 -- what is lent suffices for n objects
-pub record Room (n : ℕ) (kinds : List ℕ) (start blocks : List ℤ) (timings : List ℕ) : Type 0 where
+pub record Room (n : ℕ) (start blocks : List ℤ) (timings : List ℕ) : Type 0 where
   pub few : n ≤ objectLimit
-  pub itsKinds : n ≤ length kinds
   pub itsStart : n * rowWidth ≤ length start
   pub forBlocks : blocksLength ≤ length blocks
   pub forTimings : timingsLength ≤ length timings

@@ -1,9 +1,8 @@
 -- Reading and applying at once, in the table of block rows: object by object, and in each block by block.
 use Prim.Native.Nat.{ℕ, zero, suc, _+_, _*_}
-use mathlib.Core.List.{List, [], _∷_, map}
+use mathlib.Core.List.{List, [], _∷_}
 use lib.Dec.{eqb}
 use lib.IntN.{ℤ, pos}
-use lib.ListN.{take}
 use Rattle.bits.specs.Parsed.{Parser, _>>=_, mapP, pure}
 use Rattle.standard.specs.Numbers.{rowWidth}
 use Rattle.standard.specs.Tree.{Kind}
@@ -11,11 +10,6 @@ use Rattle.standard.specs.Updates.{update}
 use Rattle.standard.specs.Rows.{Row}
 use Rattle.standard.specs.Meaning.{updated}
 use Rattle.rows.specs.Places.{rowAt, put}
-use Rattle.update.specs.Kinds.{kindOf}
-
--- the kinds that the first n codes name
-abbrev pub kindsIn : ℕ → List ℕ → List Kind
-kindsIn n codes = map kindOf (take n codes)
 
 -- where the row of block b, object o begins, with n objects
 unfoldable pub place : ℕ → ℕ → ℕ → ℕ

@@ -1,8 +1,10 @@
 // The object element: its timings, and the rows of each object in each block.
+ghost use mathlib.Core.List.{map};
+ghost use lib.ListN.{length};
 ghost use Rattle.standard.specs.Syntax.{objectElement};
 ghost use Rattle.standard.specs.Tables.{rowsOf};
+ghost use Rattle.update.specs.Kinds.{kindOf};
 ghost use Rattle.objects.specs.Element.{Room, ReadElement};
-ghost use Rattle.objects.specs.Walk.{kindsIn};
 use crate::timings::parse_block_timings;
 use crate::walk::parse_objects;
 use bits::BitPlace;
@@ -25,13 +27,12 @@ pub fn parse_object_element(
     limit: BitPlace,
     at: BitPlace,
     kinds: &[u8],
-    object_count: usize,
     start: &[i16],
     blocks: &mut [i16],
     timings: &mut [u16],
 ) -> Element
-    requires { ⌜ Room «object_count» (now kinds) (now start) (now blocks) (now timings) ⌝ }
-    ensures { λ r. ⌜ ReadElement (objectElement (kindsIn «object_count» (now (kinds .entry))) (now (payload .entry)) (limit .0) (at .0)) (rowsOf «object_count» (now (start .entry))) r (now (blocks .entry)) (now (blocks .exit)) (now (timings .entry)) (now (timings .exit)) ⌝ }
+    requires { ⌜ Room (length (now kinds)) (now start) (now blocks) (now timings) ⌝ }
+    ensures { λ r. ⌜ ReadElement (objectElement (map kindOf (now (kinds .entry))) (now (payload .entry)) (limit .0) (at .0)) (rowsOf (length (now (kinds .entry))) (now (start .entry))) r (now (blocks .entry)) (now (blocks .exit)) (now (timings .entry)) (now (timings .exit)) ⌝ }
 {
     match parse_block_timings(payload, limit, at, timings) {
         Number::Refused(refusal) => Element::Refused(refusal),
@@ -41,7 +42,6 @@ pub fn parse_object_element(
                 limit,
                 next,
                 kinds,
-                object_count,
                 block_count as usize,
                 start,
                 blocks,

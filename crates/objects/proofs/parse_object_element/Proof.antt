@@ -1,21 +1,22 @@
 -- `objects::parse_object_element` meets its contract.
 use Prim.Native.Nat.{_*_, _≤_}
 use mathlib.Core.Path.{_≡_, refl, sym}
-use mathlib.Core.List.{List}
+use mathlib.Core.List.{List, map}
 use native.Mathlib.Omega.{arith}
 use borrow.Author.Needs.{needs}
 use lib.IntN.{ℤ}
+use lib.ListN.{length, length-map}
 use Rattle.bits.specs.Parsed.{Parsed, andThen, mapParsed, mapP}
 use Rattle.bits.specs.declared.Number.{Number}
 use Rattle.bits.proofs.Laws.{gives}
 use Rattle.standard.specs.Numbers.{rowWidth, blocksLength, timingsLength}
 use Rattle.standard.specs.Syntax.{objectElement}
 use Rattle.standard.specs.Tables.{rowsOf}
+use Rattle.update.specs.Kinds.{kindOf}
 use Rattle.objects.specs.Fills.{Filling}
 use Rattle.objects.specs.Element.{timedBy, timedAs, blockTimings}
-use Rattle.objects.specs.Walk.{kindsIn, objectsFrom}
+use Rattle.objects.specs.Walk.{objectsFrom}
 use Rattle.objects.proofs.Filling.{begin, on}
-use Rattle.objects.proofs.Turns.{kinds-length}
 use Rattle.objects.proofs.Parts.{few-timed, fit, left, leftBy, element-read, element-left, objects-left}
 use Rattle.objects.proofs.parse_object_element.Statement.{statement}
 use Rattle.objects.proofs.parse_object_element.Tie as tie
@@ -23,15 +24,16 @@ use Rattle.objects.proofs.parse_object_element.Tie as tie
 -- what is left to read goes by what stands before the objects
 at-head : (c : tie.After-parse-block-timings) {r : Number} → c .parse-block-timings .result ≡ r →
     let a = c .before .before .before .before .before .args in
-    let n = a .object-count in
-    let ks = kindsIn n (a .kinds .now) in
+    let n = length (a .kinds .now) in
+    let ks = map kindOf (a .kinds .now) in
     let t = c .parse-block-timings .last .1 .1 .1 .0 in
     Filling timingsLength (mapParsed (leftBy (rowsOf n (a .start .now)) (a .timings .now) (a .blocks .now)) (objectElement ks (a .payload .now) (a .limit .0) (a .at .0))) (a .timings .now)
     (andThen (timedAs t r) (λ h q. mapParsed (left (h .count) (h .table)) (objectsFrom n (h .count) (a .start .now) 0 ks (a .blocks .now) (a .payload .now) (a .limit .0) q)))
     t
 at-head c e =
-    let room = c .before .before .before .before .before .pre in
-    on (timedAs _) _ (begin (element-read _ _ _ _ _ _ _ _ (kinds-length _ _ (room .itsKinds)) (room .few) (room .forBlocks))) (c .parse-block-timings .ensures) (omega arith) e
+    let start = c .before .before .before .before .before in
+    let room = start .pre in
+    on (timedAs _) _ (begin (element-read _ _ _ _ _ _ _ _ (length-map (start .args .kinds .now) kindOf) (room .few) (room .forBlocks))) (c .parse-block-timings .ensures) (omega arith) e
 
 cut-timings : tie.Need-returns
 cut-timings c = element-left _ _ (at-head (c .before .before .before .before .before) (c .before .refusal .given .1)) refl refl
@@ -39,7 +41,7 @@ cut-timings c = element-left _ _ (at-head (c .before .before .before .before .be
 -- the rows fit their table
 used : (c : tie.After-block-count) →
     let a = c .before .before .before .before .before .before .before .before .before .args in
-    c .block-count .given .0 .0 * a .object-count * rowWidth ≤ blocksLength
+    c .block-count .given .0 .0 * length (a .kinds .now) * rowWidth ≤ blocksLength
 unfolding mapP
 used c =
     let h = c .before .before .before .before in
@@ -53,7 +55,7 @@ abbrev objects-read : tie.After-block-count → Parsed (List ℤ)
 objects-read c =
     let a = c .before .before .before .before .before .before .before .before .before .args in
     let b = c .block-count .given .0 in
-    objectsFrom (a .object-count) (b .0) (a .start .now) 0 (kindsIn (a .object-count) (a .kinds .now)) (a .blocks .now) (a .payload .now) (a .limit .0) (b .1 .0 .0)
+    objectsFrom (length (a .kinds .now)) (b .0) (a .start .now) 0 (map kindOf (a .kinds .now)) (a .blocks .now) (a .payload .now) (a .limit .0) (b .1 .0 .0)
 
 cut-objects : tie.Need-returns-2
 cut-objects c =

@@ -1,8 +1,9 @@
 -- `oamd::content::parse_content` meets its contract.
 use borrow.Author.Needs.{needs}
 use borrow.Author.Tests.{ne-eqb}
+use lib.ListN.{length-map}
 use Rattle.bits.specs.Parsed.{pure}
-use Rattle.objects.proofs.Turns.{kinds-length}
+use Rattle.update.specs.Kinds.{kindOf}
 use Rattle.oamd.specs.Frame.{contentIn}
 use Rattle.oamd.proofs.ElementsFraming.{unwritten}
 use Rattle.oamd.proofs.content.parse_content.Statement.{statement}
@@ -18,12 +19,11 @@ trim : tie.Need-returns-2
 unfolding contentIn
 trim c =
     let m = c .before in
-    let room = m .before .before .before .before .pre in
-    unwritten (rw (m .match .keys2, kinds-length _ _ (room .itsKinds)) (c .parse-trim-content .ensures _ _))
+    unwritten (rw (m .match .keys2, length-map (m .before .before .before .before .args .kinds .now) kindOf) (c .parse-trim-content .ensures _ _))
 
 unknown : tie.Need-returns-3
 unfolding contentIn pure
-unknown c = unwritten (rw (ne-eqb _ _ (c .match .rest .0 .1), ne-eqb _ _ (c .match .rest .1)))
+unknown c = unwritten (rw (ne-eqb _ _ (c .before .match .rest .0 .1), ne-eqb _ _ (c .before .match .rest .1)))
 
 pub parse-content-spec : {M : Type 1} → statement M
 parse-content-spec =

@@ -1,17 +1,16 @@
 -- `oamd::payload::parse_body` meets its contract.
 use mathlib.Core.Path.{_≡_, ap, _∙_}
-use mathlib.Core.List.{List}
+use mathlib.Core.List.{List, map}
 use native.Mathlib.Omega.{arith}
 use borrow.Author.Needs.{needs}
 use lib.IntN.{ℤ}
-use lib.ListN.{drop}
+use lib.ListN.{length, drop, length-map}
 use Rattle.bits.specs.Parsed.{_>>=_}
 use Rattle.standard.specs.Numbers.{rowWidth, objectLimit, startLength}
 use Rattle.standard.specs.Meaning.{startRows}
 use Rattle.standard.specs.Tables.{rowsNumbers, rowsOf, stateOf}
 use Rattle.standard.specs.Calls.{over}
-use Rattle.objects.specs.Walk.{kindsIn}
-use Rattle.objects.proofs.Turns.{kinds-length}
+use Rattle.update.specs.Kinds.{kindOf}
 use Rattle.oamd.specs.Whole.{bodyIn}
 use Rattle.oamd.proofs.Starting.{starts-back, starts-rest}
 use Rattle.oamd.proofs.Telling.{untold}
@@ -24,37 +23,37 @@ entry c = c .before .before .before .before .before .before .before .before .bef
 abbrev written : tie.After-write-starts → List ℤ
 written c =
     let a = entry c .args in
-    over (rowsNumbers (startRows (stateOf (a .retained .now)) (kindsIn (a .object-count) (a .kinds .now)))) (a .start .now)
+    over (rowsNumbers (startRows (stateOf (a .retained .now)) (map kindOf (a .kinds .now)))) (a .start .now)
 
 -- the start rows are written, and nothing behind them
 begun : (c : tie.After-write-starts) →
     let a = entry c .args in
-    rowsOf (a .object-count) (c .write-starts .last .1 .1 .1 .0) ≡ startRows (stateOf (a .retained .now)) (kindsIn (a .object-count) (a .kinds .now))
+    rowsOf (length (a .kinds .now)) (c .write-starts .last .1 .1 .0) ≡ startRows (stateOf (a .retained .now)) (map kindOf (a .kinds .now))
 begun c =
     let a = entry c .args in
-    ap (rowsOf (a .object-count)) {y = written c} (c .write-starts .ensures) ∙ starts-back (a .object-count) (a .kinds .now) (entry c .pre .1 .0 .there) (a .retained .now) (a .start .now)
+    ap (rowsOf (length (a .kinds .now))) {y = written c} (c .write-starts .ensures) ∙ starts-back (a .kinds .now) (a .retained .now) (a .start .now)
 
-rest : (c : tie.After-write-starts) → drop startLength (c .write-starts .last .1 .1 .1 .0) ≡ drop startLength (entry c .args .start .now)
+rest : (c : tie.After-write-starts) → drop startLength (c .write-starts .last .1 .1 .0) ≡ drop startLength (entry c .args .start .now)
 rest c =
     let a = entry c .args in
     let p = entry c .pre .1 in
-    ap (drop startLength) {y = written c} (c .write-starts .ensures) ∙ starts-rest (a .object-count) (a .kinds .now) (p .0 .there) (a .retained .now) (a .start .now) (p .0 .few) (p .1 .1 .forStart)
+    ap (drop startLength) {y = written c} (c .write-starts .ensures) ∙ starts-rest (a .kinds .now) (a .retained .now) (a .start .now) (p .0) (p .1 .1 .forStart)
 
 parse-elements-requires : tie.Need-parse-elements-requires
 unfolding rowWidth objectLimit startLength
 parse-elements-requires c κs =
     let w = c .before .before .before .before in
     let p = entry w .pre in
-    let few = p .1 .0 .few in
+    let few = p .1 .0 in
     let room = p .1 .1 .1 in
     let long = room .forStart in
-    let same = w .write-starts .kept .1 .1 .1 .0 in
-    (p .0, record { few = few; itsKinds = p .1 .0 .there; itsStart = omega arith; forBlocks = room .forBlocks; forTimings = room .forTimings })
+    let same = w .write-starts .kept .1 .1 .0 in
+    (p .0, record { few = few; itsStart = omega arith; forBlocks = room .forBlocks; forTimings = room .forTimings })
 
 cast-end-payload : tie.Need-cast-end-payload
 unfolding objectLimit
 cast-end-payload c =
-    let few = entry (c .before .before .before .before .before .before .before .before) .pre .1 .0 .few in
+    let few = entry (c .before .before .before .before .before .before .before .before) .pre .1 .0 in
     omega arith
 
 returns : tie.Need-returns
@@ -80,9 +79,9 @@ returns-3 c =
         ← (f .before .before .read-flag .ensures),
         f .alternate-data .given .1,
         ← (k .before .before .read-element-count .ensures),
-        k .element-count .given .1,
+        k .count .given .1,
         rw (begun w) at (e .parse-elements .ensures .same),
-        kinds-length (entry w .args .object-count) (entry w .args .kinds .now) (entry w .pre .1 .0 .there),
+        length-map (entry w .args .kinds .now) kindOf,
         ← (w .write-starts .ensures),
       )
           (c .end-payload .ensures _ _ _);

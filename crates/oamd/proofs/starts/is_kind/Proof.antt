@@ -1,20 +1,24 @@
 -- `oamd::starts::is_kind` meets its contract.
+use Prim.Native.Nat.{_<_, _^_}
 use native.Mathlib.Omega.{arith}
 use borrow.Author.Needs.{needs}
+use Rattle.standard.specs.Tree.{Kind, lfe, bed, isf, dynamic, kindCode}
 use Rattle.rows.proofs.Tests.{bits-is}
-use Rattle.update.proofs.KindLaws.{fixed-kind, dynamic-kind}
+use Rattle.update.specs.Kinds.{kindOf}
 use Rattle.oamd.proofs.starts.is_kind.Statement.{statement}
 use Rattle.oamd.proofs.starts.is_kind.Tie as tie
 
+small : (k : Kind) → kindCode k < 2 ^ 15
+small lfe = omega arith
+small bed = omega arith
+small isf = omega arith
+small dynamic = omega arith
+
 returns : tie.Need-returns
 returns c =
-    let a = c .before .args in
-    rw (fixed-kind (a .code) (c .if1 .taken) .code) (bits-is (a .code) (a .kind) (omega arith) (c .before .fits .kind .sfits))
-
-returns-2 : tie.Need-returns-2
-returns-2 c =
-    let a = c .before .args in
-    rw (dynamic-kind (a .code) (c .if1 .left)) (bits-is 3 (a .kind) (omega arith) (c .before .fits .kind .sfits))
+    let start = c .before in
+    let k = kindOf (start .args .code) in
+    rw (c .kind-number .ensures) (bits-is (kindCode k) (start .args .kind) (small k) (start .fits .kind .sfits))
 
 pub is-kind-spec : {M : Type 1} → statement M
-is-kind-spec = tie.close (tie.spec (λ c. search needs) (λ c. search needs) returns returns-2)
+is-kind-spec = tie.close (tie.spec (λ c κs. search needs) returns)

@@ -1,38 +1,38 @@
 -- The kinds passed were the same: those left decide.
 use Prim.Native.Nat.{_-_}
 use mathlib.Core.Path.{_≡_, sym, _∙_}
+use mathlib.Core.List.{map}
 use native.Mathlib.Omega.{arith}
 use borrow.Author.Needs.{needs}
 use borrow.Author.Tests.{not-true, not-false}
-use lib.ListN.{length, getD}
+use lib.ListN.{length, getD, length-map}
 use Rattle.standard.specs.Numbers.{rowWidth, objectLimit, retainedHead, retainedLength}
 use Rattle.standard.specs.Tree.{lfe, kindCode}
 use Rattle.standard.specs.Rows.{noRow, is}
 use Rattle.standard.specs.Tables.{countOf, stateOf}
 use Rattle.rows.proofs.Tests.{back}
-use Rattle.objects.specs.Walk.{kindsIn}
-use Rattle.objects.proofs.Turns.{kinds-length}
+use Rattle.update.specs.Kinds.{kindOf}
 use Rattle.oamd.proofs.Matching.{Matching, unlike-lengths, match-none, match-kind, match-not, match-all}
 use Rattle.oamd.proofs.Starting.{rows-count, kind-tested}
 use Rattle.oamd.proofs.starts.same_kinds.Statement.{statement}
 use Rattle.oamd.proofs.starts.same_kinds.Tie as tie
 
 abbrev Inv-loop : tie.InvT-loop
-Inv-loop retained kinds object-count object₀ object = Matching (kindsIn object-count kinds) (stateOf retained .rows) object
+Inv-loop retained kinds object₀ end object = Matching (map kindOf kinds) (stateOf retained .rows) object
 
 abbrev μ-loop : tie.MeasureT-loop
-μ-loop retained kinds object-count object₀ object = object-count - object
+μ-loop retained kinds object₀ end object = length kinds - object
 
-kinds : (c : tie.Start Inv-loop μ-loop) → length (kindsIn (c .args .object-count) (c .args .kinds .now)) ≡ c .args .object-count
-kinds c = kinds-length (c .args .object-count) (c .args .kinds .now) (c .pre .1 .there)
+kinds : (c : tie.Start Inv-loop μ-loop) → length (map kindOf (c .args .kinds .now)) ≡ length (c .args .kinds .now)
+kinds c = length-map (c .args .kinds .now) kindOf
 
 -- as many rows are retained as there are kinds
-counted : (c : tie.Else1 Inv-loop μ-loop) → countOf (c .before .before .before .args .retained .now) ≡ c .before .before .before .args .object-count
+counted : (c : tie.Else1 Inv-loop μ-loop) → countOf (c .before .before .before .args .retained .now) ≡ length (c .before .before .before .args .kinds .now)
 counted c = sym (c .before .count-of .ensures .same) ∙ c .if1 .left
 
 as-many : (c : tie.Else1 Inv-loop μ-loop) →
     let a = c .before .before .before .args in
-    length (stateOf (a .retained .now) .rows) ≡ length (kindsIn (a .object-count) (a .kinds .now))
+    length (stateOf (a .retained .now) .rows) ≡ length (map kindOf (a .kinds .now))
 as-many c =
     let start = c .before .before .before in
     rows-count (start .args .retained .now) ∙ counted c ∙ sym (kinds start)
@@ -41,15 +41,14 @@ as-many c =
 tested : (c : tie.After-is-kind Inv-loop μ-loop) →
     let l = c .before .before .before .before in
     let a = l .before .before .before .before .args in
-    is (kindCode (getD (kindsIn (a .object-count) (a .kinds .now)) (l .loop .object) lfe)) (getD (stateOf (a .retained .now) .rows) (l .loop .object) noRow .kind)
+    is (kindCode (getD (map kindOf (a .kinds .now)) (l .loop .object) lfe)) (getD (stateOf (a .retained .now) .rows) (l .loop .object) noRow .kind)
     ≡ c .is-kind .result
 unfolding rowWidth retainedHead
 tested c =
     let k = c .before .before in
     let l = k .before .before in
-    let start = l .before .before .before .before in
-    let a = start .args in
-    kind-tested (a .object-count) (a .kinds .now) (start .pre .1 .there) (a .retained .now) (counted (l .before)) (l .loop .object) (k .before .loop-test .taken)
+    let a = l .before .before .before .before .args in
+    kind-tested (a .kinds .now) (a .retained .now) (counted (l .before)) (l .loop .object) (k .before .loop-test .taken)
     ∙ sym (rw (back {z = k .kind-at .result} (k .kind-at .ok), k .kind-at .ensures) at (c .is-kind .ensures))
 
 returns : tie.Need-returns Inv-loop μ-loop

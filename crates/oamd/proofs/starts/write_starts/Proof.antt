@@ -1,6 +1,7 @@
 -- Each turn writes the next start row.
 use Prim.Native.Nat.{_*_, _-_, _≤_}
 use mathlib.Core.Path.{_≡_, sym}
+use mathlib.Core.List.{map}
 use native.Mathlib.Omega.{arith}
 use borrow.Author.Needs.{needs}
 use lib.ListN.{length, getD}
@@ -9,33 +10,33 @@ use Rattle.standard.specs.Rows.{noRow}
 use Rattle.standard.specs.Meaning.{startRows}
 use Rattle.standard.specs.Tables.{stateOf}
 use Rattle.rows.specs.Say.{rowSaid}
-use Rattle.objects.specs.Walk.{kindsIn}
+use Rattle.update.specs.Kinds.{kindOf}
 use Rattle.oamd.proofs.StartRows.{Writing, write-none, write-long, write-row, write-all}
 use Rattle.oamd.proofs.Starting.{starts-count, start-found}
 use Rattle.oamd.proofs.starts.write_starts.Statement.{statement}
 use Rattle.oamd.proofs.starts.write_starts.Tie as tie
 
 abbrev Inv-loop : tie.InvT-loop
-Inv-loop retained kinds object-count start₀ held object₀ start object =
-    Writing (startRows (stateOf retained) (kindsIn object-count kinds)) start₀ object start
+Inv-loop retained kinds start₀ held object₀ end start object =
+    Writing (startRows (stateOf retained) (map kindOf kinds)) start₀ object start
 
 abbrev μ-loop : tie.MeasureT-loop
-μ-loop retained kinds object-count start₀ held object₀ start object = object-count - object
+μ-loop retained kinds start₀ held object₀ end start object = length kinds - object
 
 count : (c : tie.At-loop Inv-loop μ-loop) →
     let a = c .before .before .before .args in
-    length (startRows (stateOf (a .retained .now)) (kindsIn (a .object-count) (a .kinds .now))) ≡ a .object-count
+    length (startRows (stateOf (a .retained .now)) (map kindOf (a .kinds .now))) ≡ length (a .kinds .now)
 count c =
-    let start = c .before .before .before in
-    starts-count (start .args .object-count) (start .args .kinds .now) (start .pre .1 .0 .there) (start .args .retained .now)
+    let a = c .before .before .before .args in
+    starts-count (a .kinds .now) (a .retained .now)
 
 fits : (c : tie.At-loop Inv-loop μ-loop) →
     let a = c .before .before .before .args in
-    length (startRows (stateOf (a .retained .now)) (kindsIn (a .object-count) (a .kinds .now))) * rowWidth ≤ length (a .start .now)
+    length (startRows (stateOf (a .retained .now)) (map kindOf (a .kinds .now))) * rowWidth ≤ length (a .start .now)
 unfolding rowWidth objectLimit startLength
 fits c =
     let p = c .before .before .before .pre .1 in
-    let few = p .0 .few in
+    let few = p .0 in
     let long = p .1 in
     let n = count c in
     omega arith
@@ -44,11 +45,11 @@ fits c =
 found : (c : tie.After-start-row Inv-loop μ-loop) →
     let l = c .before .before .before in
     let a = l .before .before .before .args in
-    rowSaid (c .start-row .result) ≡ getD (startRows (stateOf (a .retained .now)) (kindsIn (a .object-count) (a .kinds .now))) (l .loop .object) noRow
+    rowSaid (c .start-row .result) ≡ getD (startRows (stateOf (a .retained .now)) (map kindOf (a .kinds .now))) (l .loop .object) noRow
 found c =
     let l = c .before .before .before in
-    let start = l .before .before .before in
-    rw (c .start-row .ensures, l .before .same-kinds .ensures) (sym (start-found (start .args .object-count) (start .args .kinds .now) (start .pre .1 .0 .there) (start .args .retained .now) (l .loop .object) (c .before .before .loop-test .taken)))
+    let a = l .before .before .before .args in
+    rw (c .start-row .ensures, l .before .same-kinds .ensures) (sym (start-found (a .kinds .now) (a .retained .now) (l .loop .object) (c .before .before .loop-test .taken)))
 
 loop-again : tie.Need-loop-again Inv-loop μ-loop
 unfolding rowWidth

@@ -1,11 +1,10 @@
 -- `objects::walk::gain_before` meets its contract.
-use Prim.Native.Nat.{suc, _-_}
+use Prim.Native.Nat.{suc, _+_, _-_}
 use mathlib.Core.Path.{_≡_}
 use native.Mathlib.Omega.{arith}
-use borrow.Author.Needs.{needs}
-use mir.Syntax.{w16}
-use mir.Facts.{toZ-ofZ}
-use Rattle.objects.specs.Walk.{gainBefore}
+use Rattle.standard.specs.Numbers.{rowWidth}
+use Rattle.rows.proofs.Tests.{back}
+use Rattle.objects.specs.Walk.{place, gainBefore}
 use Rattle.objects.proofs.Places.{next-to}
 use Rattle.objects.proofs.walk.gain_before.Statement.{statement}
 use Rattle.objects.proofs.walk.gain_before.Tie as tie
@@ -14,22 +13,31 @@ first : tie.Need-returns
 unfolding gainBefore
 first c = rw (c .if1 .taken)
 
-row-place-requires : tie.Need-row-place-requires
-row-place-requires c κs =
-    let a = c .before .args in
-    omega (arith, next-to (a .object-count) (a .block) (a .object) (omega arith))
+-- the row before ends where this one begins
+beside : (c : tie.Else1) → let k = c .before .before .args .column in
+    place (k .objects) (c .before .before .args .block) (k .object - 1) + rowWidth ≡ place (k .objects) (c .before .before .args .block) (k .object)
+beside c = next-to _ _ _ (omega arith)
 
-row-at-requires : tie.Need-row-at-requires
-row-at-requires c κs =
-    let a = c .before .before .args in
-    omega (arith, c .row-place .ensures, next-to (a .object-count) (a .block) (a .object) (omega arith))
+row-place-requires : tie.Need-row-place-requires
+row-place-requires c κs = omega (arith, beside c)
 
 later : tie.Need-returns-2
-unfolding gainBefore
+unfolding gainBefore rowWidth
 later c =
-    let o = c .before .before .before .before .args .object in
+    let e = c .before .before in
+    let a = e .before .before .args in
+    let o = a .column .object in
     let k : o ≡ suc (o - 1) = omega arith in
-    rw (toZ-ofZ {w = w16} (record { sfits = c .struct-told .given .1 .1 .0 .1 }), k, ← (c .before .before .row-place .ensures), ← (c .before .row-at .ensures))
+    let at : c .before .row-place .result - rowWidth ≡ place (a .column .objects) (a .block) (o - 1) = omega (arith, c .before .row-place .ensures, beside e) in
+    rw (back {z = c .gain-at .result} (c .gain-at .ok), c .gain-at .ensures, k, at)
 
 pub gain-before-spec : {M : Type 1} → statement M
-gain-before-spec = tie.close (tie.spec first (λ c. search needs) row-place-requires row-at-requires later)
+unfolding rowWidth
+gain-before-spec =
+    tie.close
+    (tie.spec
+    first
+    row-place-requires
+    (λ c. omega (arith, c .row-place .ensures, beside (c .before)))
+    (λ c κs. omega (arith, c .row-place .ensures, beside (c .before)))
+    later)

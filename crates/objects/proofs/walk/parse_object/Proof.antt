@@ -22,30 +22,33 @@ use Rattle.objects.proofs.walk.parse_object.Statement.{statement}
 use Rattle.objects.proofs.walk.parse_object.Tie as tie
 
 abbrev Inv-loop : tie.InvT-loop
-Inv-loop payload limit kind n m object blocks₀ row₀ place₀ block₀ blocks row place block =
-    (block ≤ m) × Filling (m * n * rowWidth) (columnFrom n object (kindOf kind) m 0 (rowSaid row₀) blocks₀ payload (limit .0) (place₀ .0)) blocks₀ (columnFrom n object (kindOf kind) (m - block) block (rowSaid row) blocks payload (limit .0) (place .0)) blocks
+Inv-loop payload limit kind column blocks₀ row₀ place₀ block₀ end blocks row place block =
+    let n = column .objects in
+    let m = column .blocks in
+    (block ≤ m) × Filling (m * n * rowWidth) (columnFrom n (column .object) (kindOf kind) m 0 (rowSaid row₀) blocks₀ payload (limit .0) (place₀ .0)) blocks₀ (columnFrom n (column .object) (kindOf kind) (m - block) block (rowSaid row) blocks payload (limit .0) (place .0)) blocks
 
 abbrev μ-loop : tie.MeasureT-loop
-μ-loop payload limit kind n m object blocks₀ row₀ place₀ block₀ blocks row place block = m - block
+μ-loop payload limit kind column blocks₀ row₀ place₀ block₀ end blocks row place block = column .blocks - block
 
 loop-holds : tie.Need-loop-holds Inv-loop μ-loop
 loop-holds c =
-    let m = c .before .args .block-count in
+    let m = c .before .args .column .blocks in
     let k : m - 0 ≡ m = omega arith in
     (omega arith, begin (rw k))
 
 -- the row of this block fits the table
 room : (c : tie.In-loop Inv-loop μ-loop) →
-    let a = c .before .before .before .args in
-    place (a .object-count) (c .before .loop .block) (a .object) + rowWidth ≤ a .block-count * a .object-count * rowWidth
+    let k = c .before .before .before .args .column in
+    place (k .objects) (c .before .loop .block) (k .object) + rowWidth ≤ k .blocks * k .objects * rowWidth
 room c = within _ _ _ _ (c .loop-test .taken) (c .before .before .before .pre .0)
 
 -- the answer is what the update makes of the row so far
 row-said : (c : tie.After-parse-update Inv-loop μ-loop) →
     let a = c .before .before .before .before .before .before .args in
+    let k = a .column in
     let l = c .before .before .before .before .loop in
     saidRow (c .parse-update .result)
-    ≡ mapParsed (λ u. updated (kindOf (a .kind)) (gainBefore (a .object-count) (l .block) (a .object) (l .blocks)) u (rowSaid (l .row))) (update (kindOf (a .kind)) (eqb (l .block) 0) (a .payload .now) (a .limit .0) (l .place .0))
+    ≡ mapParsed (λ u. updated (kindOf (a .kind)) (gainBefore (k .objects) (l .block) (k .object) (l .blocks)) u (rowSaid (l .row))) (update (kindOf (a .kind)) (eqb (l .block) 0) (a .payload .now) (a .limit .0) (l .place .0))
 row-said c = c .parse-update .ensures ∙ rw (toZ-ofZ {w = w16} (record { sfits = c .before .gain-before .ok }), c .before .gain-before .ensures)
 
 returns : tie.Need-returns Inv-loop μ-loop
@@ -63,6 +66,11 @@ put-row-requires : tie.Need-put-row-requires Inv-loop μ-loop
 put-row-requires c κs =
     let l = c .before .before .before .before .before .before .before .before in
     omega (arith, c .row-place .ensures, room l, l .before .loop .inv .1 .long)
+
+add-block : tie.Need-add-block Inv-loop μ-loop
+add-block c =
+    let l = c .before .before .before .before .before .before .before .before .before .before in
+    omega (arith, l .loop-test .taken, l .before .before .before .good)
 
 loop-again : tie.Need-loop-again Inv-loop μ-loop
 loop-again c =
@@ -89,7 +97,7 @@ parse-object-spec =
     (λ c. search needs)
     row-place-requires
     put-row-requires
-    (λ c. omega arith)
+    add-block
     (λ c. omega arith)
     loop-again
     (λ c. c .before .loop .inv .1 .long)

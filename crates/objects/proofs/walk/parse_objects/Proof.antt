@@ -1,31 +1,33 @@
 -- `objects::walk::parse_objects` meets its contract: what is left to read is the later objects, over the table so far.
 use Prim.Native.Nat.{_*_, _-_, _≤_}
-use mathlib.Core.Path.{refl, _∙_}
+use mathlib.Core.Path.{_∙_}
+use mathlib.Core.List.{map}
 use native.Mathlib.Omega.{arith}
 use borrow.Author.Needs.{needs}
-use lib.ListN.{getD, drop}
+use lib.ListN.{length, getD}
 use Rattle.standard.specs.Numbers.{rowWidth}
 use Rattle.rows.specs.Places.{rowAt}
 use Rattle.update.specs.Kinds.{kindOf}
 use Rattle.objects.specs.Fills.{Filling, Fills}
-use Rattle.objects.specs.Walk.{kindsIn, columnFrom, objectsFrom}
+use Rattle.objects.specs.Walk.{columnFrom, objectsFrom}
 use Rattle.objects.proofs.Filling.{begin, to}
-use Rattle.objects.proofs.Turns.{objects-done, object-read}
+use Rattle.objects.proofs.Turns.{objectsLeft, objects-begun, objects-done, object-read}
 use Rattle.objects.proofs.walk.parse_objects.Statement.{statement}
 use Rattle.objects.proofs.walk.parse_objects.Tie as tie
 
 abbrev Inv-loop : tie.InvT-loop
-Inv-loop payload limit kinds n m start blocks₀ place₀ object₀ blocks place object =
-    (object ≤ n) × Filling (m * n * rowWidth) (objectsFrom n m start 0 (kindsIn n kinds) blocks₀ payload (limit .0) (place₀ .0)) blocks₀ (objectsFrom n m start object (drop object (kindsIn n kinds)) blocks payload (limit .0) (place .0)) blocks
+Inv-loop payload limit kinds m start blocks₀ place₀ object₀ end blocks place object =
+    (object ≤ length kinds) × Filling (m * length kinds * rowWidth) (objectsFrom (length kinds) m start 0 (map kindOf kinds) blocks₀ payload (limit .0) (place₀ .0)) blocks₀ (objectsLeft m kinds start payload (limit .0) object blocks (place .0)) blocks
 
 abbrev μ-loop : tie.MeasureT-loop
-μ-loop payload limit kinds n m start blocks₀ place₀ object₀ blocks place object = n - object
+μ-loop payload limit kinds m start blocks₀ place₀ object₀ end blocks place object = length kinds - object
 
 -- what the call read is the next object
 object-said : (c : tie.After-parse-object Inv-loop μ-loop) →
     let a = c .before .before .before .before .before .before .before .before .args in
     let l = c .before .before .before .before .before .loop in
-    Fills (a .block-count * a .object-count * rowWidth) (columnFrom (a .object-count) (l .object) (kindOf (getD (a .kinds .now) (l .object) 0)) (a .block-count) 0 (rowAt (a .start .now) (l .object * rowWidth)) (l .blocks) (a .payload .now) (a .limit .0) (l .place .0)) (l .blocks) (c .parse-object .result) (c .parse-object .last .1 .1 .1 .1 .1 .1 .1 .1 .0)
+    let n = length (a .kinds .now) in
+    Fills (a .block-count * n * rowWidth) (columnFrom n (l .object) (kindOf (getD (a .kinds .now) (l .object) 0)) (a .block-count) 0 (rowAt (a .start .now) (l .object * rowWidth)) (l .blocks) (a .payload .now) (a .limit .0) (l .place .0)) (l .blocks) (c .parse-object .result) (c .parse-object .last .1 .1 .1 .1 .1 .1 .0)
 unfolding rowWidth
 object-said c = rw (← (c .before .before .before .row-at .ensures)) (c .parse-object .ensures)
 
@@ -33,16 +35,16 @@ returns : tie.Need-returns Inv-loop μ-loop
 returns c =
     let r = c .before .before .before .before in
     let l = r .before .before .before .before in
-    object-read _ _ _ _ _ _ (l .before .before .before .before .pre .0) _ _ _ (l .before .loop .inv .1) (l .loop-test .taken) (object-said r) (c .before .refusal .given .1)
+    object-read _ _ _ _ _ _ _ _ (l .before .loop .inv .1) (l .loop-test .taken) (object-said r) (c .before .refusal .given .1)
 
 loop-again : tie.Need-loop-again Inv-loop μ-loop
 loop-again c =
     let r = c .before .before .before .before in
     let l = r .before .before .before .before in
-    (omega arith, object-read _ _ _ _ _ _ (l .before .before .before .before .pre .0) _ _ _ (l .before .loop .inv .1) (l .loop-test .taken) (object-said r) (c .before .next .given .1))
+    (omega arith, object-read _ _ _ _ _ _ _ _ (l .before .loop .inv .1) (l .loop-test .taken) (object-said r) (c .before .next .given .1))
 
 returns-2 : tie.Need-returns-2 Inv-loop μ-loop
-returns-2 c = to (c .before .loop .inv .1) (objects-done _ _ _ _ _ _ (c .before .before .before .before .pre .0) _ _ _ (c .loop-test .left))
+returns-2 c = to (c .before .loop .inv .1) (objects-done _ _ _ _ _ _ _ _ (c .loop-test .left))
 
 same-length : tie.Need-same-length Inv-loop μ-loop
 same-length c =
@@ -56,7 +58,7 @@ parse-objects-spec =
     (tie.spec
     Inv-loop
     μ-loop
-    (λ c. (omega arith, begin refl))
+    (λ c. (omega arith, begin (objects-begun _ _ _ _ _ _ _)))
     (λ c. omega arith)
     (λ c κs. omega arith)
     (λ c. omega arith)

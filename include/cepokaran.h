@@ -41,12 +41,16 @@ enum {
     CEPOKARAN_PAYLOAD_LIMIT = 16384 /* bytes in a payload, at most */
 };
 
-/* Lengths that the tables need, whatever the payload. */
+/* A retained table begins with the object count and the doubt. */
+enum { CEPOKARAN_OBJECT_COUNT = 0, CEPOKARAN_DOUBT = 1, CEPOKARAN_RETAINED_HEAD = 2 };
+
+/* Lengths that the tables need, whatever the payload. Object o is row o of start; in block b it is
+ * row b * objects + o of blocks. Start and ramp of block b, in samples, are timings 2 * b and 2 * b + 1. */
 enum {
-    CEPOKARAN_RETAINED_LENGTH = 1922, /* object count, doubt, 128 rows */
-    CEPOKARAN_START_LENGTH = 1920,    /* 128 rows: object o is row o */
-    CEPOKARAN_BLOCKS_LENGTH = 15360,  /* 8 x 128 rows: block b, object o is row b * objects + o */
-    CEPOKARAN_TIMINGS_LENGTH = 16     /* start and ramp of block b, in samples, at 2 * b and 2 * b + 1 */
+    CEPOKARAN_START_LENGTH = CEPOKARAN_ROW_WIDTH * CEPOKARAN_OBJECT_LIMIT,
+    CEPOKARAN_RETAINED_LENGTH = CEPOKARAN_RETAINED_HEAD + CEPOKARAN_START_LENGTH,
+    CEPOKARAN_BLOCKS_LENGTH = CEPOKARAN_START_LENGTH * CEPOKARAN_BLOCK_LIMIT,
+    CEPOKARAN_TIMINGS_LENGTH = 2 * CEPOKARAN_BLOCK_LIMIT
 };
 
 /* ---- A row: what is said of one object at one time ------------------------------------------- */
@@ -54,7 +58,7 @@ enum {
 /* The place of each number in a row. */
 enum {
     CEPOKARAN_KIND = 0,      /* one of the kinds below */
-    CEPOKARAN_ACTIVE = 1,    /* 0 or 1; an inactive row has gain -128 and priority 0 */
+    CEPOKARAN_ACTIVE = 1,    /* 0 or 1; an inactive row is silent and has priority 0 */
     CEPOKARAN_GAIN = 2,      /* decibels, -49 to 15; or CEPOKARAN_SILENCE */
     CEPOKARAN_PRIORITY = 3,  /* 0 to 32, in 32nds */
     CEPOKARAN_X = 4,         /* 0 to 62, in 62nds */
@@ -102,10 +106,9 @@ enum cepokaran_number {
 /* Number 0 is the object count, number 1 the doubt (1 after a gap notice), and then come the rows of
  * the last block that was accepted. All zeros is a fresh decoder. A table that starts fresh and is
  * written by these calls alone is in form for ever; it may be stored, copied and compared as it is. */
-enum { CEPOKARAN_OBJECT_COUNT = 0, CEPOKARAN_DOUBT = 1, CEPOKARAN_RETAINED_HEAD = 2 };
 
 /*
- * Makes a fresh decoder: the first 1,922 numbers become 0, whatever they were.
+ * Makes a fresh decoder: the first CEPOKARAN_RETAINED_LENGTH numbers become 0.
  * Refused, and nothing changes: ROOM.
  */
 uint32_t oamd_reset(int16_t *retained, size_t retained_len);
@@ -153,7 +156,7 @@ uint32_t oamd_decode(const uint8_t *payload, size_t payload_len,
                      int16_t *start, size_t start_len,
                      int16_t *blocks, size_t blocks_len,
                      uint16_t *timings, size_t timings_len,
-                     uint32_t answer[5]);
+                     uint32_t answer[CEPOKARAN_ANSWER_LENGTH]);
 
 /* ---- Timings and ramps ----------------------------------------------------------------------- */
 
@@ -185,13 +188,13 @@ enum {
  * 2 * blocks numbers). Then all four numbers and the fraction are 0.
  */
 uint32_t oamd_ramp(const uint16_t *timings, size_t timings_len, uint32_t blocks, uint32_t sample,
-                   uint32_t answer[4], float *fraction);
+                   uint32_t answer[CEPOKARAN_RAMP_LENGTH], float *fraction);
 
 /* ---- Rows ------------------------------------------------------------------------------------ */
 
 /*
  * Tells whether row `index` of a table of rows (start or blocks) can be shown. On 0 the row is the
- * 15 numbers from table + 15 * index. It only reads.
+ * CEPOKARAN_ROW_WIDTH numbers from table + CEPOKARAN_ROW_WIDTH * index. It only reads.
  * Refused in this order: INDEX (the row is not wholly inside the table), FORM.
  * A row that decode wrote is never refused by FORM.
  */
@@ -213,11 +216,11 @@ enum {
 /*
  * What is shown of row `index` of a table of rows, each float by one f32 division; an Lfe always
  * stands at (-1, 1, -1). `silent` is 1 where the gain is silence, else 0: read it before the
- * decibels. The mark is not among the floats: see table[15 * index + CEPOKARAN_MARK].
+ * decibels. The mark is not among the floats: it is number CEPOKARAN_MARK of the row.
  * Refused in this order: INDEX, FORM, as oamd_row. Then all floats are +0, and silent is 1.
  */
 uint32_t oamd_shown(const int16_t *table, size_t table_len, uint32_t index,
-                    float values[8], uint32_t *silent);
+                    float values[CEPOKARAN_SHOWN_LENGTH], uint32_t *silent);
 
 #ifdef __cplusplus
 }

@@ -3,7 +3,7 @@
 use crate::oamd::{OamdDecoder, OamdFrame, OamdParseError};
 use crate::orders::{self, Order};
 pub use crate::row::Row;
-use crate::row::{kind_and_state, kind_number, rows};
+use crate::row::{kind_and_state, kind_number, rows, unmarked};
 use crate::{context, notes, oamd_noting, place};
 
 pub const TRUNCATED: u8 = 1;
@@ -102,8 +102,7 @@ fn refusal(error: &OamdParseError, payload: &[u8]) -> Refusal {
 
 /// x, y, z, width, depth, height and priority as the Rust holds them, and the gain.
 pub fn shown_floats(row: &[i16]) -> ([f32; 7], Option<f32>) {
-    let row: Row = row[..14].try_into().expect("a whole row");
-    let (_, state) = kind_and_state(&row);
+    let (_, state) = kind_and_state(&unmarked(row));
     let ([x, y, z], [width, depth, height]) = (state.position, state.size);
     (
         [x, y, z, width, depth, height, state.priority],

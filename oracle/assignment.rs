@@ -27,7 +27,7 @@ pub struct Mixed {
 
 const STANDARD_WIDTHS: [u32; 10] = [1, 2, 2, 2, 2, 2, 2, 1, 1, 2];
 const ISF_COUNTS: [u32; 6] = [4, 8, 10, 14, 15, 30];
-pub const MOST_OBJECTS: u32 = 128;
+pub const MOST_OBJECTS: u32 = crate::tables::MOST_OBJECTS as u32;
 const MOST_DYNAMIC: u32 = 159;
 
 impl Bed {

@@ -1,31 +1,10 @@
 //! Document 01's form of a retained table, and random tables that have it.
 
 use crate::random::Random;
-use crate::row::{Row, DYNAMIC, SILENCE};
-use crate::tables::{COUNT, DOUBT, MARK, MOST_OBJECTS, RETAINED_HEAD, RETAINED_LENGTH, ROW_WIDTH};
-
-/// x through elevation of the default row.
-const DEFAULT_PICTURE: [i16; 10] = [31, 31, 0, 0, 0, 0, 0, 0, 0, 1];
-
-/// The smallest and the largest number of each column.
-const RANGES: [(i16, i16); ROW_WIDTH] = [
-    (0, 3),
-    (0, 1),
-    (SILENCE, 15),
-    (0, 32),
-    (0, 62),
-    (0, 62),
-    (-15, 15),
-    (0, 31),
-    (0, 31),
-    (0, 31),
-    (0, 1),
-    (0, 1),
-    (0, 5),
-    (0, 1),
-    (0, 1),
-];
-const LOWEST_GAIN: i16 = -49;
+use crate::row::{unmarked, Row};
+use crate::tables::{ACTIVE, GAIN, KIND, MARK, PRIORITY, ROW_WIDTH, X};
+use crate::tables::{COUNT, DOUBT, MOST_OBJECTS, RETAINED_HEAD, RETAINED_LENGTH};
+use crate::tables::{DEFAULT_PICTURE, DYNAMIC, LOWEST_GAIN, RANGES, SILENCE};
 
 /// Rows past the count are not looked at.
 pub fn in_form(table: &[i16]) -> bool {
@@ -39,16 +18,16 @@ fn row_in_form(row: &[i16]) -> bool {
         .iter()
         .zip(RANGES)
         .all(|(&number, (low, high))| (low..=high).contains(&number));
-    let gain = row[2] == SILENCE || row[2] >= LOWEST_GAIN;
-    let silent = row[1] == 1 || (row[2], row[3]) == (SILENCE, 0);
-    let fixed = row[0] == DYNAMIC || (row[4..MARK] == DEFAULT_PICTURE && row[MARK] == 1);
+    let gain = row[GAIN] == SILENCE || row[GAIN] >= LOWEST_GAIN;
+    let silent = row[ACTIVE] == 1 || (row[GAIN], row[PRIORITY]) == (SILENCE, 0);
+    let fixed = row[KIND] == DYNAMIC || (row[X..MARK] == DEFAULT_PICTURE && row[MARK] == 1);
     ranged && gain && silent && fixed
 }
 
 /// The form of a row to be shown: a fixed kind may have either mark.
 pub fn can_be_shown(row: &[i16]) -> bool {
     let mut marked = row.to_vec();
-    let fixed = row[0] != DYNAMIC;
+    let fixed = row[KIND] != DYNAMIC;
     if fixed && (0..=1).contains(&row[MARK]) {
         marked[MARK] = 1;
     }
@@ -73,15 +52,15 @@ pub fn random_row(random: &mut Random, kind: i16) -> [i16; ROW_WIDTH] {
         random.pick(&[low, high, any, any, any])
     };
     let mut row = RANGES.map(|range| within(random, range));
-    row[0] = kind;
-    if row[2] < LOWEST_GAIN {
-        row[2] = random.pick(&[SILENCE, LOWEST_GAIN]);
+    row[KIND] = kind;
+    if row[GAIN] < LOWEST_GAIN {
+        row[GAIN] = random.pick(&[SILENCE, LOWEST_GAIN]);
     }
-    if row[1] == 0 {
-        row[2..4].copy_from_slice(&[SILENCE, 0]);
+    if row[ACTIVE] == 0 {
+        (row[GAIN], row[PRIORITY]) = (SILENCE, 0);
     }
     if kind != DYNAMIC {
-        row[4..MARK].copy_from_slice(&DEFAULT_PICTURE);
+        row[X..MARK].copy_from_slice(&DEFAULT_PICTURE);
         row[MARK] = 1;
     }
     row
@@ -90,7 +69,17 @@ pub fn random_row(random: &mut Random, kind: i16) -> [i16; ROW_WIDTH] {
 /// The rows of a table in form, without their marks.
 pub fn rows_of(table: &[i16]) -> Vec<Row> {
     let rows = table[RETAINED_HEAD..RETAINED_LENGTH].chunks(ROW_WIDTH);
-    rows.take(table[COUNT] as usize)
-        .map(|row| row[..14].try_into().expect("14 numbers"))
-        .collect()
+    rows.take(table[COUNT] as usize).map(unmarked).collect()
+}
+
+/// The ends of the ranges of the count and of every column, and the numbers next to them.
+pub fn edges() -> Vec<i16> {
+    let others = [(0, MOST_OBJECTS as i16), (LOWEST_GAIN, LOWEST_GAIN)];
+    let ranges = RANGES.into_iter().chain(others);
+    let mut edges: Vec<i16> = ranges
+        .flat_map(|(low, high)| [low - 1, low, low + 1, high - 1, high, high + 1])
+        .collect();
+    edges.sort_unstable();
+    edges.dedup();
+    edges
 }

@@ -4,7 +4,7 @@ use crate::answer::{orders_of, Frame, Oracle, Refusal, Row};
 use crate::form::rows_of;
 use crate::marks::{Marks, Mistake};
 use crate::orders::Order;
-use crate::tables::{COUNT, DOUBT, MARK, RETAINED_HEAD, RETAINED_LENGTH, ROW_WIDTH};
+use crate::tables::{COUNT, DOUBT, KIND, MARK, RETAINED_HEAD, RETAINED_LENGTH, ROW_WIDTH};
 
 /// The number given back and the five numbers of the answer.
 #[derive(Clone, Copy, Debug, Default, PartialEq, Eq)]
@@ -17,7 +17,7 @@ pub struct Said {
     pub unsettled: u32,
 }
 
-/// What one payload is to give. The rows are 15 numbers each; a refusal has none.
+/// What one payload is to give. The rows are those of the tables, number by number; a refusal has none.
 #[derive(Clone, Default)]
 pub struct Expected {
     pub said: Said,
@@ -64,7 +64,7 @@ impl Listener {
             .chunks(ROW_WIDTH)
             .map(|row| row[MARK] == 1);
         self.marks.marks = marks.take(rows.len()).collect();
-        self.marks.kinds = rows.iter().map(|row| row[0]).collect();
+        self.marks.kinds = rows.iter().map(|row| row[KIND]).collect();
         self.marks.doubt = table[DOUBT] == 1;
     }
 

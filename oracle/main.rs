@@ -10,8 +10,8 @@
 //!     retained NUMBER ..        a line for each row that is kept
 //!     gap                       nothing is done: the Rust knows no gap
 //!     reset
-//! and last `end RECORDS`, `torn OFFSET` or `mark OFFSET`. A row is 14 numbers: document 01's row
-//! without its mark. A payload over 16,384 bytes is not decoded: `no 7 0 0`.
+//! and last `end RECORDS`, `torn OFFSET` or `mark OFFSET`. A row is document 01's row without
+//! its mark. A payload over 16,384 bytes is not decoded: `no 7 0 0`.
 //!
 //! `timing`: answers each line BLOCKS START RAMP .. SAMPLE of standard input by
 //!     NUMBER FROM TO BITS       the timing test's number (0, 8, 9, 10), the rows chosen (0 the

@@ -1,12 +1,16 @@
 //! Rows of whole numbers, from the decoder's floats.
 
 use crate::oamd::{OamdObjectKind, OamdObjectState};
+use crate::tables::{ACTIVE, DEPTH, ELEVATION, GAIN, HEIGHT, KIND, LOCK, MARK, PRIORITY, SCREEN};
+use crate::tables::{DYNAMIC, HEIGHT_LIMIT, PRIORITY_LIMIT, SIDE_LIMIT, SILENCE, SIZE_LIMIT};
+use crate::tables::{WIDTH, X, Y, Z, ZONE};
 
-/// kind active gain priority x y z width depth height screen lock zone elevation; no mark.
-pub type Row = [i16; 14];
+/// The numbers of a row before its mark.
+pub type Row = [i16; MARK];
 
-pub const SILENCE: i16 = -128;
-pub const DYNAMIC: i16 = 3;
+pub fn unmarked(row: &[i16]) -> Row {
+    row[..MARK].try_into().expect("a whole row")
+}
 
 const KINDS: [OamdObjectKind; 4] = [
     OamdObjectKind::Lfe,
@@ -20,7 +24,7 @@ pub fn kind_number(kind: OamdObjectKind) -> i16 {
         OamdObjectKind::Lfe => 0,
         OamdObjectKind::Bed => 1,
         OamdObjectKind::Isf => 2,
-        OamdObjectKind::Dynamic => 3,
+        OamdObjectKind::Dynamic => DYNAMIC,
     }
 }
 
@@ -40,12 +44,12 @@ fn row(kind: OamdObjectKind, state: &OamdObjectState) -> Row {
         "the floats say the raw place"
     );
     let [x, y, z] = state.raw_position;
-    let [width, depth, height] = state.size.map(|size| parts(size, 31));
+    let [width, depth, height] = state.size.map(|size| parts(size, SIZE_LIMIT));
     [
         kind_number(kind),
         i16::from(state.active),
         state.gain_db.map_or(SILENCE, |decibels| parts(decibels, 1)),
-        parts(state.priority, 32),
+        parts(state.priority, PRIORITY_LIMIT),
         x,
         y,
         z,
@@ -61,18 +65,20 @@ fn row(kind: OamdObjectKind, state: &OamdObjectState) -> Row {
 
 /// The kind and the state that a row in form says.
 pub fn kind_and_state(row: &Row) -> (OamdObjectKind, OamdObjectState) {
-    let kind = KINDS[row[0] as usize];
+    let kind = KINDS[row[KIND] as usize];
+    let raw_position = [row[X], row[Y], row[Z]];
+    let size = [row[WIDTH], row[DEPTH], row[HEIGHT]];
     let state = OamdObjectState {
-        active: row[1] == 1,
-        gain_db: (row[2] != SILENCE).then(|| f32::from(row[2])),
-        priority: f32::from(row[3]) / 32.0,
-        position: shown_position(kind, [row[4], row[5], row[6]]),
-        size: [row[7], row[8], row[9]].map(|size| f32::from(size) / 31.0),
-        screen_reference: row[10] == 1,
-        channel_lock: row[11] == 1,
-        zone_constraints: row[12] as u8,
-        elevation_enabled: row[13] == 1,
-        raw_position: [row[4], row[5], row[6]],
+        active: row[ACTIVE] == 1,
+        gain_db: (row[GAIN] != SILENCE).then(|| f32::from(row[GAIN])),
+        priority: part(row[PRIORITY], PRIORITY_LIMIT),
+        position: shown_position(kind, raw_position),
+        size: size.map(|size| part(size, SIZE_LIMIT)),
+        screen_reference: row[SCREEN] == 1,
+        channel_lock: row[LOCK] == 1,
+        zone_constraints: row[ZONE] as u8,
+        elevation_enabled: row[ELEVATION] == 1,
+        raw_position,
     };
     (kind, state)
 }
@@ -82,17 +88,22 @@ fn shown_position(kind: OamdObjectKind, raw: [i16; 3]) -> [f32; 3] {
     if kind == OamdObjectKind::Lfe {
         return [-1.0, 1.0, -1.0];
     }
-    let [x, y, z] = raw.map(f32::from);
-    [x / 62.0, y / 62.0, z / 15.0]
+    let [x, y, z] = raw;
+    [
+        part(x, SIDE_LIMIT),
+        part(y, SIDE_LIMIT),
+        part(z, HEIGHT_LIMIT),
+    ]
+}
+
+/// One f32 division.
+fn part(number: i16, whole: i16) -> f32 {
+    f32::from(number) / f32::from(whole)
 }
 
 /// The whole number whose one f32 division by `whole` gives the value.
-fn parts(value: f32, whole: u8) -> i16 {
+fn parts(value: f32, whole: i16) -> i16 {
     let number = (value * f32::from(whole)).round() as i16;
-    assert_eq!(
-        f32::from(number) / f32::from(whole),
-        value,
-        "a whole number of parts"
-    );
+    assert_eq!(part(number, whole), value, "a whole number of parts");
     number
 }

@@ -7,11 +7,13 @@ the timing test's number, the two rows chosen and the f32 fraction.
 import random
 import struct
 
+from named_numbers import named_numbers
 from oracle_program import ask
 from sequence_theorems import integer, naturals
 
 CASES_IN_A_THEOREM = 10
-FRAME = 1536
+FRAME = named_numbers("timing")["SAMPLES_PER_JOC_FRAME"]
+BLOCKS = named_numbers("rows")["BLOCK_LIMIT"]
 
 CHOICES = """-- Whether the definitions choose rows and fraction as the oracle did.
 use Prim.Native.Nat.{ℕ}
@@ -22,7 +24,8 @@ use lib.IntN.{ℤ}
 use lib.Ieee.{Float, nan, inf, fin, div, ofInt}
 use Rattle.standard.specs.Calls.{timingCall, rampCall}
 use Rattle.standard.specs.Computed.{computed}
-use Rattle.standard.specs.Cases.{same, eqℤ}
+use Rattle.standard.specs.Rows.{eqℤ}
+use Rattle.standard.specs.Cases.{same}
 
 pub data Case : Type 0 where
   -- timings, how many blocks, a sample; the timing test's number, from row, to row; the fraction m * 2 ^ e
@@ -45,7 +48,7 @@ allHold [] = true
 allHold (c ∷ cs) = holds c && allHold cs
 
 unfoldable pub openedChoices : Unit {0}
-unfolding computed same eqℤ div ofInt isFloat holds allHold
+unfolding computed same div ofInt isFloat holds allHold
 openedChoices = tt
 """
 
@@ -59,7 +62,7 @@ use Rattle.compared.specs.Choices.{chooses, allHold, openedChoices}
 
 def drawn_timings(draw):
     """Half of them pass the timing test or nearly so; the others are any numbers of 16 bits."""
-    blocks = draw.randint(0, 8)
+    blocks = draw.randint(0, BLOCKS)
     if draw.random() < 0.5:
         starts = sorted(draw.randint(0, FRAME) for _ in range(blocks))
         ramps = [max(0, end - start + draw.randint(-1, 1)) for start, end in zip(starts, [*starts[1:], FRAME])]

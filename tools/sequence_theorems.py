@@ -3,10 +3,11 @@
 A record is a dictionary: its sort (ok, no or gap), its payload, and lists of the oracle's numbers.
 """
 
+from named_numbers import named_numbers
 from oracle_program import ask
 
-# Numbers of a row, less the mark.
-COMPARED = 14
+# The numbers of a row before its mark.
+COMPARED = named_numbers("rows")["MARK"]
 # The oracle's lines after an `ok` whose numbers are compared.
 NUMBERS_OF_OK = ["timings", "start", "block", "retained"]
 
@@ -16,11 +17,12 @@ use mathlib.Core.Bool.{Bool, true, _&&_}
 use mathlib.Core.List.{List, [], _∷_, _++_}
 use lib.IntN.{ℤ, pos}
 use lib.ListN.{take, drop, getD}
-use Rattle.standard.specs.Numbers.{rowWidth, retainedHead}
+use Rattle.standard.specs.Numbers.{rowWidth, retainedHead, markAt}
 use Rattle.standard.specs.Calls.{Lent, Done, decode, gap}
 use Rattle.standard.specs.Journal.{freshTables}
 use Rattle.standard.specs.Computed.{computed}
-use Rattle.standard.specs.Cases.{same, eqℤ, sameℤ, answerNumbers}
+use Rattle.standard.specs.Rows.{eqℤ}
+use Rattle.standard.specs.Cases.{same, sameℤ, answerNumbers}
 
 -- what an acceptance says: objects and blocks; timings; start rows and block rows without their marks
 pub record Frame : Type 0 where
@@ -41,7 +43,7 @@ pub data Said : Type 0 where
 -- the first n rows of a table; a mark stands last in its row
 unfoldable pub unmarked : ℕ → List ℤ → List ℤ
 unmarked zero l = []
-unmarked (suc n) l = take 14 l ++ unmarked n (drop rowWidth l)
+unmarked (suc n) l = take markAt l ++ unmarked n (drop rowWidth l)
 
 unfoldable pub numbersOf : Done → List ℕ
 numbersOf d = take 5 (answerNumbers (d .answer))
@@ -71,7 +73,7 @@ agrees l (says s v n rows ∷ rest) =
     isVerdict v d && retains n rows (d .lent .retained) && agrees (d .lent .retained) rest
 
 unfoldable pub opened : Unit {0}
-unfolding computed same eqℤ sameℤ answerNumbers unmarked numbersOf isVerdict retains agrees
+unfolding computed same sameℤ answerNumbers unmarked numbersOf isVerdict retains agrees
 opened = tt
 """
 

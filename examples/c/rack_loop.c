@@ -70,7 +70,7 @@ static const struct frame programme[] = {
 };
 
 static const char *const names[] = {"lfe", "narrator", "bell"};
-static const uint32_t listened[] = {0, 256, 600, 1024, 1535};
+static const uint32_t listened[] = {0, 256, 600, 1024, CEPOKARAN_FRAME_LENGTH - 1};
 
 /* ---- What a rack holds ----------------------------------------------------------------------- */
 
@@ -79,7 +79,7 @@ static int16_t start[CEPOKARAN_START_LENGTH];
 static int16_t blocks[CEPOKARAN_BLOCKS_LENGTH];
 static uint16_t timings[CEPOKARAN_TIMINGS_LENGTH];
 
-/* A renderer asks at each of the 1,536 samples; here at a few. */
+/* A renderer asks at every sample of the frame; here at a few. */
 static void print_ramps(uint32_t block_count)
 {
     for (size_t i = 0; i < sizeof listened / sizeof *listened; i++) {

@@ -3,6 +3,7 @@
 use oracle::generator::payload_of;
 use oracle::oamd::{OamdDecoder, OamdFrame};
 use oracle::random::Random;
+use oracle::tables::{MOST_BLOCKS, MOST_OBJECTS};
 
 pub struct Case {
     pub name: &'static str,
@@ -12,13 +13,11 @@ pub struct Case {
 }
 
 const TYPICAL_OBJECTS: u32 = 16;
-const MOST_OBJECTS: u32 = 128;
-const MOST_BLOCKS: usize = 8;
 
 pub fn all() -> Vec<Case> {
     let mut random = Random::new(1);
     let typical = drawn(&mut random, TYPICAL_OBJECTS, 1, 4, 64);
-    let heavy = drawn(&mut random, MOST_OBJECTS, MOST_BLOCKS, MOST_BLOCKS, 16);
+    let heavy = drawn(&mut random, MOST_OBJECTS as u32, MOST_BLOCKS, MOST_BLOCKS, 16);
     let late = typical.iter().map(|payload| refused_late(payload)).collect();
     let heavy_late = heavy.iter().map(|payload| refused_late(payload)).collect();
     vec![

@@ -7,13 +7,13 @@ use crate::difference::{number, Difference};
 use crate::proved::Tables;
 use oracle::answer::{Frame, Oracle, Row};
 use oracle::listener::Said;
-use oracle::tables::{COLUMNS, MARK, ROW_WIDTH};
+use oracle::tables::{ACTIVE, COLUMNS, MARK, ROW_WIDTH, X};
 use std::ops::Range;
 
 /// The kind; activity, gain and priority; the picture: as columns of a row.
-const KIND: Range<usize> = 0..1;
-const SOUND: Range<usize> = 1..4;
-const PICTURE: Range<usize> = 4..MARK;
+const KIND: Range<usize> = 0..ACTIVE;
+const SOUND: Range<usize> = ACTIVE..X;
+const PICTURE: Range<usize> = X..MARK;
 
 #[derive(Default)]
 pub struct HeardAll {

@@ -5,7 +5,7 @@ use crate::difference::Difference;
 use crate::proved::{NEEDED, RETAINED, TABLES};
 use crate::spoil::Moment;
 use oracle::answer::LONGEST_PAYLOAD;
-use oracle::form::in_form;
+use oracle::form::{edges, in_form};
 use oracle::listener::Said;
 use oracle::random::Random;
 use oracle::tables::{COUNT, RETAINED_HEAD, ROW_WIDTH};
@@ -124,7 +124,6 @@ fn spoil_form(table: &mut [i16], random: &mut Random) {
     let looked_at = RETAINED_HEAD + table[COUNT] as usize * ROW_WIDTH;
     let index = random.index(looked_at);
     let any = random.next() as i16;
-    let edges = [-129, -127, -50, -16, -1, 0, 1, 2, 4, 6, 16, 32, 33, 63, 129];
-    let edge = random.pick(&edges);
+    let edge = random.pick(&edges());
     table[index] = random.pick(&[edge, edge, edge, any]);
 }

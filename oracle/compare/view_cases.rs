@@ -1,9 +1,8 @@
 //! Timings, samples and rows for the calls on finished tables.
 
-use oracle::form::random_row;
+use oracle::form::{edges, random_row};
 use oracle::random::Random;
-
-const FRAME: u32 = 1536;
+use oracle::tables::FRAME_LENGTH as FRAME;
 
 /// Up to 9 blocks. Half of them pass the timing test or nearly so; the others are any numbers of 16 bits.
 pub fn drawn_timings(random: &mut Random) -> Vec<u16> {
@@ -65,7 +64,7 @@ pub fn drawn_row(random: &mut Random) -> Vec<i16> {
     if random.flag() {
         let at = random.index(row.len());
         let any = random.next() as i16;
-        let edge = random.pick(&[-129, -128, -50, -49, -16, -1, 0, 1, 2, 4, 6, 16, 32, 33, 63]);
+        let edge = random.pick(&edges());
         row[at] = random.pick(&[edge, edge, edge, any]);
     }
     row

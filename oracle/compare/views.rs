@@ -5,7 +5,7 @@ use crate::view_cases::{drawn_blocks, drawn_row, drawn_sample, drawn_timings};
 use oracle::answer::shown_floats;
 use oracle::form::can_be_shown;
 use oracle::random::Random;
-use oracle::tables::{MOST_BLOCKS, ROW_WIDTH};
+use oracle::tables::{FRAME_LENGTH, MOST_BLOCKS, ROW_WIDTH};
 use oracle::timing::{ramp_choice, timing_number};
 use std::collections::BTreeMap;
 
@@ -33,7 +33,6 @@ const ROOM: u32 = 5;
 const FORM: u32 = 6;
 const QUERY: u32 = 11;
 const INDEX: u32 = 12;
-const LAST_SAMPLE: u32 = 1535;
 
 const TIMING: &str = "timing number";
 const RAMP: [&str; 6] = [
@@ -111,7 +110,7 @@ impl Views {
     fn ramp(&mut self, timings: &[u16], blocks: u32, sample: u32) -> Result<(), Difference> {
         let mut expected = [0; 6];
         match used(timings, blocks) {
-            _ if sample > LAST_SAMPLE => expected[0] = QUERY,
+            _ if sample >= FRAME_LENGTH => expected[0] = QUERY,
             Err(refusal) => expected[0] = refusal,
             Ok(used) => {
                 let choice = ramp_choice(used, sample as usize);

@@ -3,9 +3,19 @@ mod shown;
 
 use crate::shown::show;
 use journals::buffers::part;
+use rows::numbers::PAYLOAD_LIMIT;
+
+// The mark and the length of a payload.
+const HEAD: usize = 4;
+
+const AT_THE_LIMIT: usize = HEAD + PAYLOAD_LIMIT;
+
+const OVER_THE_LIMIT: usize = AT_THE_LIMIT + 1;
 
 // The longest record, and a gap behind it.
-const LONGEST: usize = 65541;
+const LONGEST: usize = HEAD + 0xffff;
+
+const WITH_GAP: usize = LONGEST + 2;
 
 fn endings() {
     show(b"empty\n", b"");
@@ -36,18 +46,21 @@ fn doubts() {
 
 // Payloads of zeros, by the two bytes of their length.
 fn lengths() {
-    let mut bytes = [0u8; LONGEST];
+    let mut bytes = [0u8; WITH_GAP];
     bytes[0] = 0x50;
     bytes[1] = 0x4c;
     bytes[2] = 0x40;
-    show(b"16,384 bytes\n", part(&bytes, 0, 16388));
+    show(b"16,384 bytes\n", part(&bytes, 0, AT_THE_LIMIT));
     bytes[3] = 0x01;
-    show(b"16,385 bytes\n", part(&bytes, 0, 16389));
-    show(b"16,385 bytes, the last missing\n", part(&bytes, 0, 16388));
+    show(b"16,385 bytes\n", part(&bytes, 0, OVER_THE_LIMIT));
+    show(
+        b"16,385 bytes, the last missing\n",
+        part(&bytes, 0, AT_THE_LIMIT),
+    );
     bytes[2] = 0xff;
     bytes[3] = 0xff;
-    bytes[65539] = 0x47;
-    bytes[65540] = 0x50;
+    bytes[LONGEST] = 0x47;
+    bytes[LONGEST + 1] = 0x50;
     show(b"65,535 bytes, and a gap\n", &bytes);
 }
 

@@ -91,12 +91,14 @@ pub extern "C" fn oamd_ramp(
     }
 }
 
-// Whether the row at an index can be shown.
+// The number of the row part at an index. C has the table, so it finds the part itself.
 #[no_mangle]
 pub extern "C" fn oamd_row(table: &[i16], index: u32) -> u32
-    ensures { λ r. ⌜ r ≡ calls.rowNumber (now (table .entry)) index ⌝ }
+    ensures { λ r. ⌜ r ≡ calls.partCall (now (table .entry)) index .number ⌝ }
 {
-    rows::calls::row_number(table, index as usize)
+    let mut number = 0;
+    rows::calls::row_part(table, index as usize, &mut number);
+    number
 }
 
 // What is shown of a row: x, y, z, width, depth, height, priority, decibels. Silence has no decibels, but a 0.

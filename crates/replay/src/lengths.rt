@@ -1,5 +1,6 @@
 // Lengths of the lent tables, all longer than needed, and what stands in an answer of the list.
 use rows::numbers::BLOCKS_LENGTH;
+use rows::numbers::PAYLOAD_LIMIT;
 use rows::numbers::RETAINED_LENGTH;
 use rows::numbers::START_LENGTH;
 use rows::numbers::TIMINGS_LENGTH;
@@ -21,7 +22,7 @@ pub const SENTINEL: i16 = 21845;
 pub const TIMINGS_SENTINEL: u16 = 43690;
 
 // One byte more than decode reads.
-pub const LONGEST_PAYLOAD: usize = 16385;
+pub const LONGEST_PAYLOAD: usize = PAYLOAD_LIMIT + 1;
 
 // The answer's bytes: number, context, place in four, objects, blocks, unsettled; then the timings, two bytes each.
 pub const TIMINGS_AT: usize = 9;

@@ -1,13 +1,13 @@
 -- The ways that each public call can end.
 use Prim.Native.Nat.{ℕ, _+_, _*_, _<_, _≤_}
-use mathlib.Core.Path.{_≡_, refl}
+use mathlib.Core.Path.{_≡_, refl, sym, _∙_, ap}
 use mathlib.Core.Bool.{Bool, true, false, cond}
 use mathlib.Core.List.{List, []}
 use native.Mathlib.Omega.{arith}
 use borrow.Author.Tests.{le-leb, lt-leb, leb-true, ne-eqb}
 use lib.Dec.{leb}
 use lib.IntN.{ℤ, pos}
-use lib.ListN.{length, take, drop, replicate, set}
+use lib.ListN.{length, take, drop, replicate, set, length-take, length-drop}
 use Rattle.standard.specs.Numbers.{rowWidth, retainedLength, accepted, room, form, index}
 use Rattle.standard.specs.Tables.{rowOf, shownForm, inForm}
 use Rattle.standard.specs.Calls.{over, reset, gap, rowPart, rowNumber, partCall}
@@ -61,6 +61,15 @@ module _ (l : List ℤ) (i : ℕ) where
       go : (a b : Bool) → cond a (cond b accepted form) index ≡ accepted → a ≡ true
       go true b e = refl
       go false b e = absurd (omega arith)
+
+  -- a part that is handed back with number 0 is a whole row
+  pub part-whole : {n : ℕ} {p : List ℤ} → Handed (partCall l i) n p → n ≡ accepted → (p ≡ rowPart l i) × (length p ≡ rowWidth)
+  unfolding partCall rowPart rowWidth
+  part-whole h z =
+      let e = sym (h .number) ∙ z in
+      let k = shown-within e in
+      let same = rw e at (h .part) in
+      (same, ap length same ∙ simp (length-take, length-drop) (omega arith))
 
   pub part-refused : (n : ℕ) → n ≡ rowNumber l i → (n ≡ accepted → ⊥) → Handed (partCall l i) n []
   unfolding partCall

@@ -8,7 +8,6 @@ use Rattle.standard.specs.Calls.{Kept, PartAnswer}
 use Rattle.rows.specs.Promises.{Left, Handed}
 use Rattle.rows.proofs.calls.reset.Reads as reset
 use Rattle.rows.proofs.calls.gap.Reads as gap
-use Rattle.rows.proofs.calls.row_number.Reads as row-number
 use Rattle.rows.proofs.calls.row_part.Reads as row-part
 
 -- what is seen of the value v that is given back and of the parameters s at exit follows from the parameters a at entry
@@ -33,9 +32,6 @@ reset-determined κs a n n′ s s′ p q = kept-is p ∙ sym (kept-is q)
 
 pub gap-determined : Determines gap.Post (λ κs n s. kept n (now (s .0)))
 gap-determined κs a n n′ s s′ p q = kept-is p ∙ sym (kept-is q)
-
-pub row-number-determined : Determines row-number.Post (λ κs n s. n)
-row-number-determined κs a n n′ s s′ p q = p ∙ sym q
 
 -- the number is behind the third parameter
 pub row-part-determined : Determines row-part.Post (λ κs part s. handed (now (s .1 .1 .0)) (now part))

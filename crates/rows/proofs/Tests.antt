@@ -12,17 +12,14 @@ use mir.Syntax.{w16}
 use mir.Val.{toZ, ofZ}
 use mir.Facts.{toZ-ofZ}
 use borrow.Author.Needs.{sfits-of}
-use Rattle.standard.specs.Rows.{is, isSilent}
+use Rattle.standard.specs.Numbers.{silence}
+use Rattle.standard.specs.Rows.{eqℤ, is, isSilent}
 use Rattle.standard.specs.Tables.{every, between}
 
 -- A signed number in a local is its bits
 
 pub back : {z : ℤ} → mag z < 2 ^ 15 → toZ w16 (ofZ w16 z) ≡ z
 back h = toZ-ofZ (sfits-of h)
-
-pub bits-is : (n : ℕ) (v : ℤ) → n < 2 ^ 15 → mag v < 2 ^ 15 → eqb (ofZ w16 v) n ≡ is n v
-bits-is n (pos m) k h = refl
-bits-is n (negsuc m) k h = ne-eqb (2 ^ 16 - suc m) n (λ e. omega arith)
 
 same-test : (a b c d : ℕ) → (a ≡ b → c ≡ d) → (c ≡ d → a ≡ b) → eqb a b ≡ eqb c d
 same-test a b c d f g = go (eqb c d) refl
@@ -31,9 +28,17 @@ same-test a b c d f g = go (eqb c d) refl
     go true e = eq-eqb a b (g (eqb-true c d e))
     go false e = ne-eqb a b (λ p. eqb-false c d e (f p))
 
-pub bits-silent : (v : ℤ) → mag v < 2 ^ 15 → eqb (ofZ w16 v) (ofZ w16 (negsuc 127)) ≡ isSilent v
-bits-silent (pos m) h = ne-eqb m (2 ^ 16 - suc 127) (λ e. omega arith)
-bits-silent (negsuc m) h = same-test (2 ^ 16 - suc m) (2 ^ 16 - suc 127) m 127 (λ e. omega arith) (λ e. omega arith)
+pub bits-same : (v u : ℤ) → mag v < 2 ^ 15 → mag u < 2 ^ 15 → eqb (ofZ w16 v) (ofZ w16 u) ≡ eqℤ v u
+bits-same (pos m) (pos n) h k = refl
+bits-same (pos m) (negsuc n) h k = ne-eqb m (2 ^ 16 - suc n) (λ e. omega arith)
+bits-same (negsuc m) (pos n) h k = ne-eqb (2 ^ 16 - suc m) n (λ e. omega arith)
+bits-same (negsuc m) (negsuc n) h k = same-test (2 ^ 16 - suc m) (2 ^ 16 - suc n) m n (λ e. omega arith) (λ e. omega arith)
+
+pub bits-is : (n : ℕ) (v : ℤ) → n < 2 ^ 15 → mag v < 2 ^ 15 → eqb (ofZ w16 v) n ≡ is n v
+bits-is n v k h = bits-same v (pos n) h k
+
+pub bits-silent : (v : ℤ) → mag v < 2 ^ 15 → eqb (ofZ w16 v) (ofZ w16 silence) ≡ isSilent v
+bits-silent v h = bits-same v silence h (omega arith)
 
 -- A number from 0 to h is a count of at most h
 

@@ -38,7 +38,7 @@ pub fn gap(retained: &mut [i16]) -> u32
 }
 
 // Why the row at an index cannot be shown. The rows are counted first, since the index may be any number.
-pub fn row_number(table: &[i16], index: usize) -> u32
+fn row_number(table: &[i16], index: usize) -> u32
     ensures { λ r. ⌜ r ≡ rowNumber (now (table .entry)) index ⌝ }
 {
     let rows = table.len() / ROW_WIDTH;
@@ -51,7 +51,7 @@ pub fn row_number(table: &[i16], index: usize) -> u32
     FORM
 }
 
-// The row at an index, where it lies in the table: empty where its number is not 0.
+// The row at an index, as the part of the table where it lies: empty where its number is not 0.
 pub fn row_part<'a>(table: &'a [i16], index: usize, number: &mut u32) -> &'a [i16]
     ensures { λ r. ⌜ Handed (partCall (now (table .entry)) index) (now (number .exit)) (now r) ⌝ }
 {

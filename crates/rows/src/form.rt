@@ -3,12 +3,20 @@ ghost use mathlib.Core.Path.{_≡_};
 ghost use Prim.Native.Nat.{_+_, _*_, _≤_};
 ghost use lib.ListN.{length, drop};
 ghost use Rattle.standard.specs.Numbers.{rowWidth, retainedHead, retainedLength};
-ghost use Rattle.standard.specs.Tables.{between, isFlag, gainForm, positionForm, zoneForm, sizeForm, pictureForm, isDefault, activeForm, fixedForm, shownForm, rowForm, rowsOf, allForm, inForm};
+ghost use Rattle.standard.specs.Tables.{between, isFlag, gainForm, positionForm, zoneForm, sizeForm, pictureForm, samePosition, sameZone, sameSize, samePicture, isDefault, activeForm, fixedForm, shownForm, rowForm, rowsOf, allForm, inForm};
 ghost use Rattle.rows.specs.Say.{positionSaid, zoneSaid, sizeSaid, pictureSaid, rowSaid};
+use crate::numbers::HEIGHT_LIMIT;
+use crate::numbers::HIGHEST_GAIN;
+use crate::numbers::LOWEST_GAIN;
 use crate::numbers::OBJECT_LIMIT;
+use crate::numbers::PRIORITY_LIMIT;
 use crate::numbers::RETAINED_HEAD;
 use crate::numbers::ROW_WIDTH;
+use crate::numbers::SETTLED;
+use crate::numbers::SIDE_LIMIT;
 use crate::numbers::SILENCE;
+use crate::numbers::SIZE_LIMIT;
+use crate::numbers::ZONE_LIMIT;
 use crate::retained::count_of;
 use crate::row::DYNAMIC;
 use crate::row::Picture;
@@ -16,6 +24,7 @@ use crate::row::Position;
 use crate::row::Row;
 use crate::row::Size;
 use crate::row::Zone;
+use crate::row::default_picture;
 use crate::table::row_at;
 
 fn within(lo: i16, hi: i16, v: i16) -> bool
@@ -36,23 +45,23 @@ fn gain_form(v: i16) -> bool
     ensures { λ r. ⌜ r ≡ gainForm v ⌝ }
 {
     let silent = v == SILENCE;
-    let heard = within(-49, 15, v);
+    let heard = within(LOWEST_GAIN, HIGHEST_GAIN, v);
     silent | heard
 }
 
 fn position_form(p: Position) -> bool
     ensures { λ r. ⌜ r ≡ positionForm (positionSaid p) ⌝ }
 {
-    let x = within(0, 62, p.x);
-    let y = within(0, 62, p.y);
-    let z = within(-15, 15, p.z);
+    let x = within(0, SIDE_LIMIT, p.x);
+    let y = within(0, SIDE_LIMIT, p.y);
+    let z = within(-HEIGHT_LIMIT, HEIGHT_LIMIT, p.z);
     x & y & z
 }
 
 fn zone_form(z: Zone) -> bool
     ensures { λ r. ⌜ r ≡ zoneForm (zoneSaid z) ⌝ }
 {
-    let zone = within(0, 5, z.zone);
+    let zone = within(0, ZONE_LIMIT, z.zone);
     let elevation = is_flag(z.elevation);
     zone & elevation
 }
@@ -60,9 +69,9 @@ fn zone_form(z: Zone) -> bool
 fn size_form(s: Size) -> bool
     ensures { λ r. ⌜ r ≡ sizeForm (sizeSaid s) ⌝ }
 {
-    let width = within(0, 31, s.width);
-    let depth = within(0, 31, s.depth);
-    let height = within(0, 31, s.height);
+    let width = within(0, SIZE_LIMIT, s.width);
+    let depth = within(0, SIZE_LIMIT, s.depth);
+    let height = within(0, SIZE_LIMIT, s.height);
     width & depth & height
 }
 
@@ -77,19 +86,37 @@ fn picture_form(p: Picture) -> bool
     position & zone & size & screen & lock
 }
 
+fn same_position(p: Position, q: Position) -> bool
+    ensures { λ r. ⌜ r ≡ samePosition (positionSaid p) (positionSaid q) ⌝ }
+{
+    (p.x == q.x) & (p.y == q.y) & (p.z == q.z)
+}
+
+fn same_zone(p: Zone, q: Zone) -> bool
+    ensures { λ r. ⌜ r ≡ sameZone (zoneSaid p) (zoneSaid q) ⌝ }
+{
+    (p.zone == q.zone) & (p.elevation == q.elevation)
+}
+
+fn same_size(p: Size, q: Size) -> bool
+    ensures { λ r. ⌜ r ≡ sameSize (sizeSaid p) (sizeSaid q) ⌝ }
+{
+    (p.width == q.width) & (p.depth == q.depth) & (p.height == q.height)
+}
+
+fn same_picture(p: Picture, q: Picture) -> bool
+    ensures { λ r. ⌜ r ≡ samePicture (pictureSaid p) (pictureSaid q) ⌝ }
+{
+    let position = same_position(p.position, q.position);
+    let zone = same_zone(p.zone, q.zone);
+    let size = same_size(p.size, q.size);
+    position & zone & size & (p.screen == q.screen) & (p.lock == q.lock)
+}
+
 fn is_default(p: Picture) -> bool
     ensures { λ r. ⌜ r ≡ isDefault (pictureSaid p) ⌝ }
 {
-    (p.position.x == 31)
-        & (p.position.y == 31)
-        & (p.position.z == 0)
-        & (p.size.width == 0)
-        & (p.size.depth == 0)
-        & (p.size.height == 0)
-        & (p.screen == 0)
-        & (p.lock == 0)
-        & (p.zone.zone == 0)
-        & (p.zone.elevation == 1)
+    same_picture(p, default_picture())
 }
 
 // An inactive row is silent and has priority 0.
@@ -112,10 +139,10 @@ fn fixed_form(row: Row) -> bool
 pub fn shown_form(row: Row) -> bool
     ensures { λ r. ⌜ r ≡ shownForm (rowSaid row) ⌝ }
 {
-    let kind = within(0, 3, row.kind);
+    let kind = within(0, DYNAMIC, row.kind);
     let flag = is_flag(row.active);
     let gain = gain_form(row.gain);
-    let priority = within(0, 32, row.priority);
+    let priority = within(0, PRIORITY_LIMIT, row.priority);
     let picture = picture_form(row.picture);
     let mark = is_flag(row.mark);
     let active = active_form(row);
@@ -129,7 +156,7 @@ pub fn row_form(row: Row) -> bool
 {
     let shown = shown_form(row);
     let dynamic = row.kind == DYNAMIC;
-    let full = row.mark == 1;
+    let full = row.mark == SETTLED;
     shown & (dynamic | full)
 }
 

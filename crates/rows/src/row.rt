@@ -7,8 +7,23 @@ ghost use Rattle.standard.specs.Rows.{defaultPicture};
 ghost use Rattle.standard.specs.Tables.{rowNumbers, rowOf};
 ghost use Rattle.rows.specs.Kinds.{kindOf};
 ghost use Rattle.rows.specs.Say.{positionSaid, zoneSaid, sizeSaid, pictureSaid, rowSaid};
+use crate::numbers::ACTIVE;
+use crate::numbers::DEPTH;
+use crate::numbers::ELEVATION;
+use crate::numbers::GAIN;
+use crate::numbers::HEIGHT;
+use crate::numbers::KIND;
+use crate::numbers::LOCK;
+use crate::numbers::MARK;
 use crate::numbers::MIDDLE;
+use crate::numbers::PRIORITY;
 use crate::numbers::ROW_WIDTH;
+use crate::numbers::SCREEN;
+use crate::numbers::WIDTH;
+use crate::numbers::X;
+use crate::numbers::Y;
+use crate::numbers::Z;
+use crate::numbers::ZONE;
 
 // The kinds. All but the last are fixed.
 pub const LFE: i16 = 0;
@@ -96,9 +111,9 @@ fn position_of(part: &[i16]) -> Position
     ensures { λ r. ⌜ positionSaid r ≡ rowOf (now (part .entry)) .picture .position ⌝ }
 {
     Position {
-        x: part[4],
-        y: part[5],
-        z: part[6],
+        x: part[X],
+        y: part[Y],
+        z: part[Z],
     }
 }
 
@@ -107,8 +122,8 @@ fn zone_of(part: &[i16]) -> Zone
     ensures { λ r. ⌜ zoneSaid r ≡ rowOf (now (part .entry)) .picture .zone ⌝ }
 {
     Zone {
-        zone: part[12],
-        elevation: part[13],
+        zone: part[ZONE],
+        elevation: part[ELEVATION],
     }
 }
 
@@ -117,9 +132,9 @@ fn size_of(part: &[i16]) -> Size
     ensures { λ r. ⌜ sizeSaid r ≡ rowOf (now (part .entry)) .picture .size ⌝ }
 {
     Size {
-        width: part[7],
-        depth: part[8],
-        height: part[9],
+        width: part[WIDTH],
+        depth: part[DEPTH],
+        height: part[HEIGHT],
     }
 }
 
@@ -131,8 +146,8 @@ fn picture_of(part: &[i16]) -> Picture
         position: position_of(part),
         zone: zone_of(part),
         size: size_of(part),
-        screen: part[10],
-        lock: part[11],
+        screen: part[SCREEN],
+        lock: part[LOCK],
     }
 }
 
@@ -142,12 +157,12 @@ pub fn row_of(part: &[i16]) -> Row
     ensures { λ r. ⌜ rowSaid r ≡ rowOf (now (part .entry)) ⌝ }
 {
     Row {
-        kind: part[0],
-        active: part[1],
-        gain: part[2],
-        priority: part[3],
+        kind: part[KIND],
+        active: part[ACTIVE],
+        gain: part[GAIN],
+        priority: part[PRIORITY],
         picture: picture_of(part),
-        mark: part[14],
+        mark: part[MARK],
     }
 }
 

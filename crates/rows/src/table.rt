@@ -7,6 +7,9 @@ ghost use Rattle.standard.specs.Numbers.{rowWidth};
 ghost use Rattle.standard.specs.Calls.{over};
 ghost use Rattle.rows.specs.Say.{rowSaid};
 ghost use Rattle.rows.specs.Places.{written, rowAt, put};
+use crate::numbers::GAIN;
+use crate::numbers::KIND;
+use crate::numbers::MARK;
 use crate::numbers::ROW_WIDTH;
 use crate::row::Row;
 use crate::row::row_numbers;
@@ -26,21 +29,21 @@ pub fn kind_at(table: &[i16], at: usize) -> i16
     requires { ⌜ at + rowWidth ≤ length (now table) ⌝ }
     ensures { λ r. ⌜ r ≡ rowAt (now (table .entry)) at .kind ⌝ }
 {
-    table[at]
+    table[at + KIND]
 }
 
 pub fn gain_at(table: &[i16], at: usize) -> i16
     requires { ⌜ at + rowWidth ≤ length (now table) ⌝ }
     ensures { λ r. ⌜ r ≡ rowAt (now (table .entry)) at .gain ⌝ }
 {
-    table[at + 2]
+    table[at + GAIN]
 }
 
 pub fn mark_at(table: &[i16], at: usize) -> i16
     requires { ⌜ at + rowWidth ≤ length (now table) ⌝ }
     ensures { λ r. ⌜ r ≡ rowAt (now (table .entry)) at .mark ⌝ }
 {
-    table[at + 14]
+    table[at + MARK]
 }
 
 // The `n` numbers of `from` that begin at `first` take the places of `to` that begin at `at`.

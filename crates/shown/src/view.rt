@@ -4,10 +4,13 @@ ghost use Rattle.standard.specs.Shown.{shownGain, shown};
 ghost use Rattle.rows.specs.Say.{rowSaid};
 ghost use Rattle.shown.specs.Say.{gainSaid, shownSaid};
 ghost use Rattle.shown.specs.Promises.{Stands};
+use rows::numbers::HEIGHT_LIMIT;
+use rows::numbers::PRIORITY_LIMIT;
+use rows::numbers::SIDE_LIMIT;
 use rows::numbers::SILENCE;
+use rows::numbers::SIZE_LIMIT;
+use rows::row::LFE;
 use rows::row::Row;
-
-const LFE: i16 = 0;
 
 pub enum Gain {
     Silence,
@@ -50,9 +53,9 @@ fn place_of(row: Row) -> Place
     }
     let position = row.picture.position;
     Place {
-        x: position.x as f32 / 62u8 as f32,
-        y: position.y as f32 / 62u8 as f32,
-        z: position.z as f32 / 15u8 as f32,
+        x: position.x as f32 / SIDE_LIMIT as f32,
+        y: position.y as f32 / SIDE_LIMIT as f32,
+        z: position.z as f32 / HEIGHT_LIMIT as f32,
     }
 }
 
@@ -75,10 +78,10 @@ pub fn shown_of(row: Row) -> Shown
         x: place.x,
         y: place.y,
         z: place.z,
-        width: size.width as f32 / 31u8 as f32,
-        depth: size.depth as f32 / 31u8 as f32,
-        height: size.height as f32 / 31u8 as f32,
-        priority: row.priority as f32 / 32u8 as f32,
+        width: size.width as f32 / SIZE_LIMIT as f32,
+        depth: size.depth as f32 / SIZE_LIMIT as f32,
+        height: size.height as f32 / SIZE_LIMIT as f32,
+        priority: row.priority as f32 / PRIORITY_LIMIT as f32,
         gain,
     }
 }

@@ -10,11 +10,10 @@ use lib.ListN.{getD, take, drop, replicate}
 use Rattle.bits.specs.Parsed.{truncated}
 use Rattle.standard.specs.Numbers.{retainedHead}
 use Rattle.standard.specs.Contexts as context
-use Rattle.standard.specs.Rows.{Picture, Row, defaultPicture, is}
+use Rattle.standard.specs.Rows.{Picture, Row, defaultPicture, eqℤ, is}
 use Rattle.standard.specs.Tables.{rowsNumbers, rowsOf, countOf}
 use Rattle.standard.specs.Calls.{Lent, Done, over, decline, decode, timingCall}
 use Rattle.standard.specs.Journal.{freshTables, withRetained}
-use Rattle.standard.specs.Cases.{eqℤ}
 use Rattle.standard.proofs.Writer.{_⊳_, bytes, dynamicOnly, said, block, timed, blocks, off, unity, place, first, restOne, movedOne, written}
 
 abbrev pub Decoder : Type 0

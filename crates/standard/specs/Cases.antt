@@ -8,6 +8,7 @@ use lib.ListN.{length, take}
 use Rattle.bits.specs.Parsed.{Parsed, got, refused}
 use Rattle.standard.specs.Assignment.{objectCount}
 use Rattle.standard.specs.Updates.{decibels}
+use Rattle.standard.specs.Rows.{eqℤ}
 use Rattle.standard.specs.Calls.{Lent, Answer, decode, timingCall}
 use Rattle.standard.specs.Journal.{Record, replyTo, freshTables}
 
@@ -18,12 +19,6 @@ same [] [] = true
 same [] (y ∷ ys) = false
 same (x ∷ xs) [] = false
 same (x ∷ xs) (y ∷ ys) = eqb x y && same xs ys
-
-unfoldable pub eqℤ : ℤ → ℤ → Bool
-eqℤ (pos m) (pos n) = eqb m n
-eqℤ (pos m) (negsuc n) = false
-eqℤ (negsuc m) (pos n) = false
-eqℤ (negsuc m) (negsuc n) = eqb m n
 
 unfoldable pub sameℤ : List ℤ → List ℤ → Bool
 sameℤ [] [] = true

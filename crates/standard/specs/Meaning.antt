@@ -4,11 +4,11 @@ use mathlib.Core.Bool.{Bool, true, false, cond, _&&_}
 use mathlib.Core.List.{List, [], _∷_, map}
 use mathlib.Core.Option.{Option, none, some}
 use lib.Dec.{leb}
-use lib.IntN.{ℤ, pos, negsuc, _+ℤ_}
+use lib.IntN.{ℤ, pos, negℤ, _+ℤ_}
 use lib.Signed.{ltZ}
 use lib.ListN.{length, getD, drop}
 use Rattle.bits.specs.Parsed.{Parsed, got, refused, Placed}
-use Rattle.standard.specs.Numbers.{silence, payloadLimit, size, alone}
+use Rattle.standard.specs.Numbers.{sideLimit, heightLimit, priorityLimit, silence, payloadLimit, size, alone}
 use Rattle.standard.specs.Tree.{Kind, kindCode, isDynamic, Position, GainWord, level, copied, PositionWord, absolute, moved, Render, default, kept, given, Update, inactive, active, Object, Tree, kindsOf}
 use Rattle.standard.specs.Syntax.{syntax}
 use Rattle.standard.specs.Rows.{Picture, Row, State, defaultPicture, noRow, is, isSilent}
@@ -22,7 +22,7 @@ heldRow d r =
 
 unfoldable pub defaultRow : ℤ → Kind → Row
 defaultRow d k =
-    record { kind = pos (kindCode k); active = pos 1; gain = pos 0; priority = pos 32; picture = defaultPicture; mark = doubted d settled }
+    record { kind = pos (kindCode k); active = pos 1; gain = pos 0; priority = pos priorityLimit; picture = defaultPicture; mark = doubted d settled }
 
 unfoldable pub sameKinds : List Kind → List Row → Bool
 sameKinds [] [] = true
@@ -60,7 +60,11 @@ clamp lo hi v = cond (ltZ v lo) lo (cond (ltZ hi v) hi v)
 -- a step beyond an end stays there
 unfoldable pub stepped : Position → Position → Position
 stepped d p =
-    record { x = clamp (pos 0) (pos 62) (p .x +ℤ d .x); y = clamp (pos 0) (pos 62) (p .y +ℤ d .y); z = clamp (negsuc 14) (pos 15) (p .z +ℤ d .z) }
+    record {
+      x = clamp (pos 0) (pos sideLimit) (p .x +ℤ d .x);
+      y = clamp (pos 0) (pos sideLimit) (p .y +ℤ d .y);
+      z = clamp (negℤ (pos heightLimit)) (pos heightLimit) (p .z +ℤ d .z);
+    }
 
 unfoldable pub positionSaid : PositionWord → Position → Position
 positionSaid (absolute q) p = q

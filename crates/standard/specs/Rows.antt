@@ -4,6 +4,7 @@ use mathlib.Core.Bool.{Bool, false}
 use mathlib.Core.List.{List, []}
 use lib.Dec.{eqb}
 use lib.IntN.{ℤ, pos, negsuc}
+use Rattle.standard.specs.Numbers.{silence, middle}
 use Rattle.standard.specs.Tree.{Position, Zone, Size}
 
 pub record Picture : Type 0 where
@@ -32,7 +33,7 @@ fresh = record { doubt = pos 0; rows = [] }
 unfoldable pub defaultPicture : Picture
 defaultPicture =
     record {
-      position = record { x = pos 31; y = pos 31; z = pos 0 };
+      position = record { x = pos middle; y = pos middle; z = pos 0 };
       zone = record { zone = pos 0; elevation = pos 1 };
       size = record { width = pos 0; depth = pos 0; height = pos 0 };
       screen = pos 0;
@@ -78,10 +79,14 @@ part itsLock p = p .lock
 
 -- Tests of a number
 
+abbrev pub eqℤ : ℤ → ℤ → Bool
+eqℤ (pos m) (pos n) = eqb m n
+eqℤ (pos m) (negsuc n) = false
+eqℤ (negsuc m) (pos n) = false
+eqℤ (negsuc m) (negsuc n) = eqb m n
+
 abbrev pub is : ℕ → ℤ → Bool
-is n (pos m) = eqb m n
-is n (negsuc m) = false
+is n v = eqℤ v (pos n)
 
 abbrev pub isSilent : ℤ → Bool
-isSilent (pos m) = false
-isSilent (negsuc m) = eqb m 127
+isSilent v = eqℤ v silence

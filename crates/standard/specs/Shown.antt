@@ -2,6 +2,8 @@
 use mathlib.Core.Bool.{cond}
 use lib.IntN.{ℤ}
 use lib.Ieee.{Float, binary32, ofInt}
+use Rattle.standard.specs.Numbers.{sideLimit, heightLimit, sizeLimit, priorityLimit}
+use Rattle.standard.specs.Tree.{kindCode, lfe}
 use Rattle.standard.specs.Floats.{nought, one, minusOne, ratio}
 use Rattle.standard.specs.Rows.{Row, is, isSilent}
 
@@ -27,15 +29,15 @@ shownGain g = cond (isSilent g) silent (decibels (ofInt binary32 g))
 unfoldable pub shown : Row → Shown
 shown r =
     let p = r .picture in
-    let lfe = is 0 (r .kind) in
+    let isLfe = is (kindCode lfe) (r .kind) in
     record {
-      x = cond lfe minusOne (ratio (p .position .x) 62);
-      y = cond lfe one (ratio (p .position .y) 62);
-      z = cond lfe minusOne (ratio (p .position .z) 15);
-      width = ratio (p .size .width) 31;
-      depth = ratio (p .size .depth) 31;
-      height = ratio (p .size .height) 31;
-      priority = ratio (r .priority) 32;
+      x = cond isLfe minusOne (ratio (p .position .x) sideLimit);
+      y = cond isLfe one (ratio (p .position .y) sideLimit);
+      z = cond isLfe minusOne (ratio (p .position .z) heightLimit);
+      width = ratio (p .size .width) sizeLimit;
+      depth = ratio (p .size .depth) sizeLimit;
+      height = ratio (p .size .height) sizeLimit;
+      priority = ratio (r .priority) priorityLimit;
       gain = shownGain (r .gain);
     }
 

@@ -2,12 +2,14 @@
 use Prim.Native.Nat.{ℕ, zero, suc, _*_, _-_}
 use mathlib.Core.Bool.{Bool, true, _&&_, _||_}
 use mathlib.Core.List.{List, [], _∷_, _++_, map}
-use lib.IntN.{ℤ, pos, negsuc, natAbs}
+use lib.IntN.{ℤ, pos, negℤ, natAbs}
 use lib.Signed.{leZ}
 use lib.ListN.{length, getD, take, drop, replicate}
 use Rattle.standard.specs.Numbers.{rowWidth, objectLimit, retainedHead}
-use Rattle.standard.specs.Tree.{Position, Zone, Size, Timing}
-use Rattle.standard.specs.Rows.{Picture, Row, State, noRow, is, isSilent}
+use Rattle.standard.specs.Numbers.{kindAt, activeAt, gainAt, priorityAt, xAt, yAt, zAt, widthAt, depthAt, heightAt, screenAt, lockAt, zoneAt, elevationAt, markAt}
+use Rattle.standard.specs.Numbers.{sideLimit, heightLimit, sizeLimit, zoneLimit, priorityLimit, lowestGain, highestGain}
+use Rattle.standard.specs.Tree.{kindCode, dynamic, Position, Zone, Size, Timing}
+use Rattle.standard.specs.Rows.{Picture, Row, State, defaultPicture, noRow, eqℤ, is, isSilent}
 
 -- kind; active; gain; priority; x; y; z; width, depth, height; screen; lock; zone; elevation; mark
 unfoldable pub rowNumbers : Row → List ℤ
@@ -22,18 +24,18 @@ unfoldable pub rowOf : List ℤ → Row
 rowOf l =
     let n : ℕ → ℤ = λ i. getD l i (pos 0) in
     record {
-      kind = n 0;
-      active = n 1;
-      gain = n 2;
-      priority = n 3;
+      kind = n kindAt;
+      active = n activeAt;
+      gain = n gainAt;
+      priority = n priorityAt;
       picture = record {
-        position = record { x = n 4; y = n 5; z = n 6 };
-        size = record { width = n 7; depth = n 8; height = n 9 };
-        screen = n 10;
-        lock = n 11;
-        zone = record { zone = n 12; elevation = n 13 };
+        position = record { x = n xAt; y = n yAt; z = n zAt };
+        size = record { width = n widthAt; depth = n depthAt; height = n heightAt };
+        screen = n screenAt;
+        lock = n lockAt;
+        zone = record { zone = n zoneAt; elevation = n elevationAt };
       };
-      mark = n 14;
+      mark = n markAt;
     }
 
 unfoldable pub rowsNumbers : List Row → List ℤ
@@ -85,25 +87,27 @@ every (b ∷ bs) = b && every bs
 abbrev pub between : ℤ → ℤ → ℤ → Bool
 between lo hi v = leZ lo v && leZ v hi
 
+abbrev pub upTo : ℕ → ℤ → Bool
+upTo n v = between (pos 0) (pos n) v
+
 abbrev pub isFlag : ℤ → Bool
-isFlag v = between (pos 0) (pos 1) v
+isFlag v = upTo 1 v
 
 unfoldable pub gainForm : ℤ → Bool
-gainForm v = isSilent v || between (negsuc 48) (pos 15) v
+gainForm v = isSilent v || between lowestGain highestGain v
 
 unfoldable pub positionTests : Position → List Bool
 positionTests p =
-    between (pos 0) (pos 62) (p .x) ∷ between (pos 0) (pos 62) (p .y) ∷ between (negsuc 14) (pos 15) (p .z) ∷ []
+    upTo sideLimit (p .x) ∷ upTo sideLimit (p .y) ∷ between (negℤ (pos heightLimit)) (pos heightLimit) (p .z) ∷ []
 
 unfoldable pub positionForm : Position → Bool
 positionForm p = every (positionTests p)
 
 unfoldable pub zoneForm : Zone → Bool
-zoneForm z = every (between (pos 0) (pos 5) (z .zone) ∷ isFlag (z .elevation) ∷ [])
+zoneForm z = every (upTo zoneLimit (z .zone) ∷ isFlag (z .elevation) ∷ [])
 
 unfoldable pub sizeForm : Size → Bool
-sizeForm s =
-    every (between (pos 0) (pos 31) (s .width) ∷ between (pos 0) (pos 31) (s .depth) ∷ between (pos 0) (pos 31) (s .height) ∷ [])
+sizeForm s = every (upTo sizeLimit (s .width) ∷ upTo sizeLimit (s .depth) ∷ upTo sizeLimit (s .height) ∷ [])
 
 unfoldable pub pictureTests : Picture → List Bool
 pictureTests p =
@@ -115,11 +119,22 @@ pictureForm p = every (pictureTests p)
 unfoldable pub markForm : ℤ → Bool
 markForm m = isFlag m
 
+abbrev pub samePosition : Position → Position → Bool
+samePosition p q = every (eqℤ (p .x) (q .x) ∷ eqℤ (p .y) (q .y) ∷ eqℤ (p .z) (q .z) ∷ [])
+
+abbrev pub sameZone : Zone → Zone → Bool
+sameZone p q = every (eqℤ (p .zone) (q .zone) ∷ eqℤ (p .elevation) (q .elevation) ∷ [])
+
+abbrev pub sameSize : Size → Size → Bool
+sameSize p q = every (eqℤ (p .width) (q .width) ∷ eqℤ (p .depth) (q .depth) ∷ eqℤ (p .height) (q .height) ∷ [])
+
+abbrev pub samePicture : Picture → Picture → Bool
+samePicture p q =
+    every (samePosition (p .position) (q .position) ∷ sameZone (p .zone) (q .zone) ∷ sameSize (p .size) (q .size)
+    ∷ eqℤ (p .screen) (q .screen) ∷ eqℤ (p .lock) (q .lock) ∷ [])
+
 unfoldable pub isDefault : Picture → Bool
-isDefault p =
-    every (is 31 (p .position .x) ∷ is 31 (p .position .y) ∷ is 0 (p .position .z)
-    ∷ is 0 (p .size .width) ∷ is 0 (p .size .depth) ∷ is 0 (p .size .height)
-    ∷ is 0 (p .screen) ∷ is 0 (p .lock) ∷ is 0 (p .zone .zone) ∷ is 1 (p .zone .elevation) ∷ [])
+isDefault p = samePicture p defaultPicture
 
 -- a row at rest is silent, and has no priority
 unfoldable pub activeForm : Row → Bool
@@ -127,12 +142,12 @@ activeForm r = is 1 (r .active) || (isSilent (r .gain) && is 0 (r .priority))
 
 -- a fixed kind has the default picture
 unfoldable pub fixedForm : Row → Bool
-fixedForm r = is 3 (r .kind) || isDefault (r .picture)
+fixedForm r = is (kindCode dynamic) (r .kind) || isDefault (r .picture)
 
 -- of a row to be shown: a fixed kind has either mark
 unfoldable pub shownTests : Row → List Bool
 shownTests r =
-    between (pos 0) (pos 3) (r .kind) ∷ isFlag (r .active) ∷ gainForm (r .gain) ∷ between (pos 0) (pos 32) (r .priority)
+    upTo (kindCode dynamic) (r .kind) ∷ isFlag (r .active) ∷ gainForm (r .gain) ∷ upTo priorityLimit (r .priority)
     ∷ pictureForm (r .picture) ∷ markForm (r .mark) ∷ activeForm r ∷ fixedForm r ∷ []
 
 unfoldable pub shownForm : Row → Bool
@@ -143,11 +158,11 @@ isFull m = is 1 m
 
 -- of a retained row: a fixed kind has mark 1
 unfoldable pub rowForm : Row → Bool
-rowForm r = shownForm r && (is 3 (r .kind) || isFull (r .mark))
+rowForm r = shownForm r && (is (kindCode dynamic) (r .kind) || isFull (r .mark))
 
 unfoldable pub allForm : List Row → Bool
 allForm [] = true
 allForm (r ∷ rs) = rowForm r && allForm rs
 
 unfoldable pub inForm : List ℤ → Bool
-inForm l = between (pos 0) (pos objectLimit) (getD l 0 (pos 0)) && isFlag (getD l 1 (pos 0)) && allForm (stateOf l .rows)
+inForm l = upTo objectLimit (getD l 0 (pos 0)) && isFlag (getD l 1 (pos 0)) && allForm (stateOf l .rows)

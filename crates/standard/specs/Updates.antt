@@ -4,11 +4,11 @@ use mathlib.Core.Bool.{Bool, true, false, cond}
 use mathlib.Core.List.{_∷_}
 use mathlib.Core.Option.{none, some}
 use lib.Dec.{leb, eqb}
-use lib.IntN.{ℤ, pos, negsuc, negℤ, subℕ}
+use lib.IntN.{ℤ, pos, negℤ, subℕ}
 use Rattle.bits.specs.Bits.{isSet}
 use Rattle.bits.specs.Parsed.{Parser, _>>=_, _>>_, mapP, pure, refuse, times, optional, here, require, placedAt, placed, invalid}
 use Rattle.bits.specs.Reads.{read, flag, readSigned, skipBytes}
-use Rattle.standard.specs.Numbers.{silence}
+use Rattle.standard.specs.Numbers.{sideLimit, zoneLimit, priorityLimit, silence}
 use Rattle.standard.specs.Tree.{Kind, isDynamic, Zone, Size, GainWord, level, copied, PositionWord, absolute, moved, Basic, Groups, Render, default, kept, given, Update, inactive, active, Object}
 use Rattle.standard.specs.Contexts as context
 
@@ -30,7 +30,7 @@ gainWord = do
 unfoldable pub priorityWord : Parser ℤ
 priorityWord = do
   usual ← flag context.default-object-priority-flag
-  cond usual (pure (pos 32)) (mapP pos (read 5 context.object-priority))
+  cond usual (pure (pos priorityLimit)) (mapP pos (read 5 context.object-priority))
 
 -- Status 0 sets silence and priority 0, 1 says both, 2 keeps both, 3 says those of its two flags, the gain's first. It was read at `at`.
 unfoldable pub basic : ℕ → ℕ → Parser Basic
@@ -59,7 +59,7 @@ absolutely = do
   y ← read 6 context.position-Y
   positive ← flag context.position-Z-sign
   z ← read 4 context.position-Z
-  pure (absolute (record { x = pos (min x 62); y = pos (min y 62); z = cond positive (pos z) (negℤ (pos z)) }))
+  pure (absolute (record { x = pos (min x sideLimit); y = pos (min y sideLimit); z = cond positive (pos z) (negℤ (pos z)) }))
 
 -- read and dropped
 unfoldable pub distance : Parser (Unit {0})
@@ -87,7 +87,7 @@ unfoldable pub zoneWord : Parser Zone
 zoneWord = do
   at ← here
   n ← read 3 context.zone-constraints-index
-  require (leb n 5) (invalid context.zone-constraints-index at)
+  require (leb n zoneLimit) (invalid context.zone-constraints-index at)
   elevated ← flag context.elevation-enabled-flag
   pure (record { zone = pos n; elevation = bit elevated })
 

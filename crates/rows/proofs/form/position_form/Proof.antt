@@ -18,4 +18,4 @@ returns c =
     and no-more)
 
 pub position-form-spec : {M : Type 1} → statement M
-position-form-spec = tie.close (tie.spec (λ c κs. search needs) (λ c κs. search needs) (λ c κs. search needs) returns)
+position-form-spec = tie.close (tie.spec (λ c κs. search needs) (λ c κs. search needs) (λ c. search needs) (λ c κs. search needs) returns)

@@ -2,8 +2,8 @@
 use mathlib.Core.Path.{_∙_}
 use mathlib.Core.List.{[], _∷_}
 use borrow.Author.Needs.{needs}
-use lib.IntN.{pos}
-use Rattle.standard.specs.Tables.{sizeForm, between}
+use Rattle.standard.specs.Numbers.{sizeLimit}
+use Rattle.standard.specs.Tables.{sizeForm, upTo}
 use Rattle.rows.proofs.Lists.{_and_, no-more}
 use Rattle.rows.proofs.Tests.{all-pass}
 use Rattle.rows.proofs.form.size_form.Statement.{statement}
@@ -13,7 +13,7 @@ returns : tie.Need-returns
 unfolding sizeForm
 returns c =
     let s = c .before .before .before .before .before .before .args .s in
-    all-pass (between (pos 0) (pos 31) (s .width) ∷ between (pos 0) (pos 31) (s .depth) ∷ between (pos 0) (pos 31) (s .height) ∷ [])
+    all-pass (upTo sizeLimit (s .width) ∷ upTo sizeLimit (s .depth) ∷ upTo sizeLimit (s .height) ∷ [])
     (c .before .before .before .before .within .ensures ∙ search needs
     and c .before .before .within2 .ensures ∙ search needs
     and c .within3 .ensures ∙ search needs

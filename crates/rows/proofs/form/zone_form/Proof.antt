@@ -2,8 +2,8 @@
 use mathlib.Core.Path.{_∙_}
 use mathlib.Core.List.{[], _∷_}
 use borrow.Author.Needs.{needs}
-use lib.IntN.{pos}
-use Rattle.standard.specs.Tables.{zoneForm, between, isFlag}
+use Rattle.standard.specs.Numbers.{zoneLimit}
+use Rattle.standard.specs.Tables.{zoneForm, upTo, isFlag}
 use Rattle.rows.proofs.Lists.{_and_, no-more}
 use Rattle.rows.proofs.Tests.{all-pass}
 use Rattle.rows.proofs.form.zone_form.Statement.{statement}
@@ -13,7 +13,7 @@ returns : tie.Need-returns
 unfolding zoneForm
 returns c =
     let z = c .before .before .before .before .args .z in
-    all-pass (between (pos 0) (pos 5) (z .zone) ∷ isFlag (z .elevation) ∷ [])
+    all-pass (upTo zoneLimit (z .zone) ∷ isFlag (z .elevation) ∷ [])
     (c .before .before .within .ensures ∙ search needs
     and c .is-flag .ensures ∙ search needs
     and no-more)

@@ -1,5 +1,4 @@
 -- The kind by its place in a row.
-use native.Mathlib.Nat.{add-zero}
 use borrow.Author.Needs.{needs}
 use Rattle.standard.specs.Numbers.{rowWidth}
 use Rattle.standard.specs.Tables.{rowOf}
@@ -10,4 +9,4 @@ use Rattle.rows.proofs.table.kind_at.Tie as tie
 
 pub kind-at-spec : {M : Type 1} → statement M
 unfolding rowWidth rowOf rowAt
-kind-at-spec = tie.close (tie.spec (λ c. search needs) (λ c. search needs) (λ c. search (needs, getD-part, add-zero)))
+kind-at-spec = tie.close (tie.spec (λ c. search needs) (λ c. search needs) (λ c. search needs) (λ c. search (needs, getD-part)))

@@ -1,41 +1,30 @@
--- A row that is shown lies in the table.
-use Prim.Native.Nat.{_+_, _*_, _≤_}
-use mathlib.Core.Path.{refl, sym, _∙_}
-use native.Mathlib.Omega.{arith}
+-- A part with number 0 is a whole row.
+use mathlib.Core.Path.{refl}
 use borrow.Author.Needs.{needs}
 use borrow.Author.Tests.{ne-eqb}
-use lib.ListN.{length}
-use Rattle.standard.specs.Numbers.{rowWidth, accepted}
-use Rattle.standard.specs.Calls.{rowPart, shownCall}
-use Rattle.rows.specs.Places.{rowAt}
-use Rattle.rows.proofs.Answers.{shown-within}
+use Rattle.standard.specs.Numbers.{accepted}
+use Rattle.standard.specs.Calls.{partCall, shownCall}
+use Rattle.rows.proofs.Answers.{part-whole}
 use Rattle.shown.proofs.calls.shown.Statement.{statement}
 use Rattle.shown.proofs.calls.shown.Tie as tie
 
-within : (c : tie.Else1) → (c .before .before .args .index + 1) * rowWidth ≤ length (c .before .before .args .table .now)
-within c = shown-within (c .before .before .args .table .now) (c .before .before .args .index) (sym (c .before .row-number .ensures) ∙ c .if1 .left)
-
 returns : tie.Need-returns
-unfolding shownCall
+unfolding partCall shownCall
 returns c =
-    let refused = ne-eqb (c .before .row-number .result) accepted (c .if1 .taken) in
-    rw (← c .before .row-number .ensures) (record { says = rw refused; shows = rw refused })
+    let part = c .before .row-part in
+    let refused = ne-eqb (part .last .1 .1 .0) accepted (c .if1 .taken) in
+    rw (← part .ensures .number) (record { says = rw refused; shows = rw refused })
+
+row-of-requires : tie.Need-row-of-requires
+row-of-requires c κs = part-whole _ _ (c .before .row-part .ensures) (c .if1 .left) .1
 
 returns-2 : tie.Need-returns-2
-unfolding shownCall rowPart rowAt rowWidth
+unfolding partCall shownCall
 returns-2 c =
-    let row = c .before in
-    rw (← row .before .before .row-number .ensures, row .before .if1 .left)
-    (record { says = rw (c .shown-of .ensures, row .row-at .ensures); shows = refl })
+    let whole = c .before .before in
+    let part = whole .before .row-part in
+    rw (← part .ensures .number, whole .if1 .left)
+    (record { says = rw (c .shown-of .ensures, c .before .row-of .ensures, part-whole _ _ (part .ensures) (whole .if1 .left) .0); shows = refl })
 
 pub shown-spec : {M : Type 1} → statement M
-unfolding rowWidth
-shown-spec =
-    tie.close
-    (tie.spec
-    (λ c κs. search needs)
-    returns
-    (λ c. omega (arith, within c))
-    (λ c κs. omega (arith, within c))
-    (λ c κs. search needs)
-    returns-2)
+shown-spec = tie.close (tie.spec (λ c κs. search needs) returns row-of-requires (λ c κs. search needs) returns-2)

@@ -1,18 +1,29 @@
-"""Runs the oracle's program, which oracle/build makes."""
+"""Builds and runs the oracle's program."""
 
-import pathlib
 import subprocess
 
-from rust_source import stop
+from at_hand import run, rust_compiler, stop
+from crate_list import TOP
+from rust_source import sources
 
-ORACLE = pathlib.Path(__file__).resolve().parent.parent / "target" / "oracle" / "oracle"
+ORACLE = TOP / "target" / "oracle" / "oracle"
+
+
+def ready():
+    """Ends where something is missing that the oracle is built of."""
+    rust_compiler()
+    sources()
+
+
+def build():
+    """The oracle as its source is now, in seconds."""
+    ready()
+    run(TOP / "oracle" / "build")
 
 
 def ask(*words, given=None):
     """What the oracle writes in one of its modes, as bytes."""
-    if not ORACLE.is_file():
-        stop("target/oracle/oracle is missing: run oracle/build")
     done = subprocess.run([str(ORACLE), *map(str, words)], input=given, stdout=subprocess.PIPE)
     if done.returncode != 0:
-        stop("the oracle failed")
+        stop("the oracle failed", 1)
     return done.stdout

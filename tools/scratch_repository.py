@@ -1,13 +1,12 @@
 """A scratch repository below target/definitions/, in which the prover computes the definitions."""
 
-import pathlib
 import re
 import shutil
 import subprocess
 
-from rust_source import stop
+from at_hand import stop
+from crate_list import TOP
 
-TOP = pathlib.Path(__file__).resolve().parent.parent
 SCRATCH = TOP / "target" / "definitions"
 DEFINITIONS = ["bits", "standard"]
 

@@ -1,4 +1,4 @@
--- Laws that stand on several functions; callers cite Keeping, Turnwise and those on determinacy.
+-- Laws that stand on several functions; callers cite Keeping, Running and those on determinacy.
 pub mod Stepping
 pub mod Replying
 pub mod Turning
@@ -6,7 +6,7 @@ pub mod Putting
 pub mod Decimal
 pub mod AnswerTexts
 pub mod Printing
-pub mod Turnwise
+pub mod Running
 pub mod Keeping
 pub mod Determined
 pub mod DeterminedLines

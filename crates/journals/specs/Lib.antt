@@ -4,4 +4,5 @@ pub mod Promises
 pub mod Turns
 pub mod Texts
 pub mod Prints
+pub mod Runs
 pub mod Buffers

@@ -1,11 +1,10 @@
--- What the line of a turn promises, and what turn after turn prints.
-use Prim.Native.Nat.{ℕ, zero, suc, _+_, _≤_, _<_}
+-- What the line of a turn promises.
+use Prim.Native.Nat.{ℕ, _≤_, _<_}
 use mathlib.Core.Path.{_≡_}
-use mathlib.Core.List.{List, [], _++_}
+use mathlib.Core.List.{List, []}
 use lib.IntN.{ℤ}
-use lib.ListN.{length, drop}
-use Rattle.standard.specs.Calls.{Lent}
-use Rattle.standard.specs.Journal.{whole, more, unknown, step, rest, badMark, replyTo, line, lastLine}
+use lib.ListN.{length}
+use Rattle.standard.specs.Journal.{line}
 use Rattle.rows.specs.Places.{written}
 use Rattle.journals.specs.Promises.{recordLimit}
 use Rattle.journals.specs.Turns.{Happened, replied, waits, stops, Turned}
@@ -38,12 +37,3 @@ pub record PrintLeft (number offset : ℕ) (d : Turned) (arrived out : List ℕ)
   pub blocks : b ≡ d .lent .blocks
   pub timings : t ≡ d .lent .timings
   pub put : out′ ≡ written out 0 (textOf number offset (d .happened))
-
--- What a program prints that takes one turn after the other: n records were printed before, `at` bytes used
-unfoldable pub printsFrom : ℕ → ℕ → ℕ → Lent → List ℕ → List ℕ
-printsFrom zero n at l s = lastLine n (rest at s)
-printsFrom (suc f) n at l s = elim (step s) [
-  | whole r k ↦ let d = replyTo l r in line (suc n) at (d .reply) ++ printsFrom f (suc n) (at + k) (d .lent) (drop k s)
-  | more ↦ lastLine n (rest at s)
-  | unknown ↦ lastLine n (badMark at)
-]

@@ -19,6 +19,7 @@ use rows::row::DYNAMIC;
 use rows::row::LFE;
 
 mod beds;
+mod channels;
 mod contents;
 mod contexts;
 mod kinds;

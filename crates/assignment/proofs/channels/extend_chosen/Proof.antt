@@ -1,4 +1,4 @@
--- `assignment::beds::extend_chosen` meets its contract: what is left to write are the channels from the bit at hand.
+-- `assignment::channels::extend_chosen` meets its contract: what is left to write are the channels from the bit at hand.
 use Prim.Native.Nat.{_+_, _*_, _-_, _≤_}
 use mathlib.Core.Path.{_≡_, refl, sym, _∙_}
 use native.Mathlib.Omega.{arith}
@@ -8,8 +8,8 @@ use lib.ListN.{length, getD}
 use Rattle.assignment.specs.Kinds.{holding, extend}
 use Rattle.assignment.proofs.Filling.{cond-grown}
 use Rattle.assignment.proofs.Chosen.{codesFrom, chosen-all, chosen-none, chosen-more}
-use Rattle.assignment.proofs.beds.extend_chosen.Statement.{statement}
-use Rattle.assignment.proofs.beds.extend_chosen.Tie as tie
+use Rattle.assignment.proofs.channels.extend_chosen.Statement.{statement}
+use Rattle.assignment.proofs.channels.extend_chosen.Tie as tie
 
 abbrev Inv-loop : tie.InvT-loop
 Inv-loop kinds₀ count assignment widths second-lfe total₀ index₀ index-end kinds total index =

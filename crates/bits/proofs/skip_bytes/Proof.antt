@@ -1,15 +1,15 @@
--- `assignment::skip_bytes` meets its contract.
+-- `bits::skip_bytes` meets its contract.
 use borrow.Author.Needs.{needs}
 use Rattle.bits.specs.Parsed.{_>>=_}
-use Rattle.standard.specs.Assignment.{skipBytes}
-use Rattle.assignment.proofs.skip_bytes.Statement.{statement}
-use Rattle.assignment.proofs.skip_bytes.Tie as tie
+use Rattle.bits.specs.Reads.{skipBytes}
+use Rattle.bits.proofs.skip_bytes.Statement.{statement}
+use Rattle.bits.proofs.skip_bytes.Tie as tie
 
 returns-2 : tie.Need-returns-2
 unfolding skipBytes _>>=_
 returns-2 c =
-    let v = c .before .before in
-    rw (← (v .before .before .read .ensures), v .coded .given .1) (c .skip .ensures _)
+    let v = c .before .before .before in
+    rw (← (v .before .before .read .ensures), v .coded .given .1, ← (c .before .bits .ensures)) (c .skip .ensures _)
 
 pub skip-bytes-spec : {M : Type 1} → statement M
 unfolding skipBytes _>>=_
@@ -21,7 +21,7 @@ skip-bytes-spec =
     (λ c. search needs)
     (λ c. search needs)
     (λ c. search needs)
-    (λ c. search needs)
+    (λ c κs. search needs)
     (λ c κs. search needs)
     (λ c. rw (← (c .before .before .before .read .ensures), c .before .refusal .given .1))
     returns-2)

@@ -2,8 +2,10 @@
 ghost use mathlib.Core.Path.{_≡_};
 ghost use lib.ListN.{length};
 ghost use Rattle.standard.specs.Numbers.{rowWidth};
+ghost use Rattle.standard.specs.Tree.{isDynamic, kindNumber};
 ghost use Rattle.standard.specs.Rows.{defaultPicture};
 ghost use Rattle.standard.specs.Tables.{rowNumbers, rowOf};
+ghost use Rattle.rows.specs.Kinds.{kindOf};
 ghost use Rattle.rows.specs.Say.{positionSaid, zoneSaid, sizeSaid, pictureSaid, rowSaid};
 use crate::numbers::MIDDLE;
 use crate::numbers::ROW_WIDTH;
@@ -16,6 +18,21 @@ pub const BED: i16 = 1;
 pub const ISF: i16 = 2;
 
 pub const DYNAMIC: i16 = 3;
+
+// Any number that names no fixed kind.
+pub fn is_dynamic(kind: i16) -> bool
+    ensures { λ r. ⌜ r ≡ isDynamic (kindOf kind) ⌝ }
+{
+    let fixed = (kind == LFE) | (kind == BED) | (kind == ISF);
+    !fixed
+}
+
+// The number of the kind that a number names.
+pub fn kind_of(number: i16) -> i16
+    ensures { λ r. ⌜ r ≡ kindNumber (kindOf number) ⌝ }
+{
+    if is_dynamic(number) { DYNAMIC } else { number }
+}
 
 pub struct Position {
     pub x: i16,

@@ -1,33 +1,22 @@
 -- One pass does what the two layers do: each pass is what standard's meaning makes of standard's rule.
-use Prim.Native.Nat.{ℕ, _/_, _%_}
-use mathlib.Core.Path.{_≡_, refl, sym}
+use Prim.Native.Nat.{ℕ}
+use mathlib.Core.Path.{_≡_, refl}
 use mathlib.Core.Bool.{Bool, true, false, cond, _&&_}
 use mathlib.Core.List.{List}
-use mathlib.Core.Option.{Option, none, some}
-use native.Mathlib.Nat.{div-div-eq-div-mul}
-use native.Mathlib.Omega.{arith}
+use mathlib.Core.Option.{Option}
 use lib.Dec.{eqb}
 use lib.IntN.{ℤ}
-use borrow.Author.Tests.{eq-eqb, ne-eqb, eqb-true, eqb-false}
 use Rattle.bits.specs.Bits.{isSet}
 use Rattle.bits.specs.Parsed.{Parser, mapParsed, _>>=_, pure, optional, here, Placed, placed}
-use Rattle.bits.proofs.Always.{Always}
-use Rattle.bits.proofs.Always as always
 use Rattle.standard.specs.Contexts as context
 use Rattle.standard.specs.Tree.{Kind, lfe, bed, isf, dynamic, isDynamic, PositionWord, Basic, Render, kept, given, inactive, active}
 use Rattle.standard.specs.Updates.{bit, gainWord, priorityWord, basic, positionWord, zoneWord, sizeWord, screenWord, groups, render, status, activeUpdate, update}
 use Rattle.standard.specs.Rows.{Row}
-use Rattle.standard.specs.Marks.{isSome, absolutelySaid, settles, settlesAll, newMark, rowMark}
+use Rattle.standard.specs.Marks.{settled, unsettled, isSome, absolutelySaid, settles, settlesAll, newMark, rowMark}
+use Rattle.standard.specs.Tables.{isFull}
 use Rattle.standard.specs.Meaning.{orBefore, gainSaid, newGain, newPosition, newPicture, rowPicture, updated}
-use Rattle.update.specs.Passes.{withGain, withPriority, withPicture, withMark, placed as placedAnew, withZone, withSize, withScreen, begun, gainPass, priorityPass, levelsPass, basicPass, partsRead, stepsRead, pastDistance, placePass, positionPass, zonePass, sizePass, screenPass, lockPass, groupsPass, renderPass, statePass, rowPass}
-use Rattle.bits.proofs.Makes.{Makes, given as gives, choose, from-here, mapped, bind-such, bind, after, next, last, at-place, word, said}
-
--- a word is there where it was asked for
-module _ {A : Type 0} where
-  asked : (b : Bool) (m : Parser A) → Always (λ o. isSome o ≡ b) (optional b m)
-  unfolding optional
-  asked true m = always.mapped some m (λ a. refl)
-  asked false m = always.given none refl
+use Rattle.update.specs.Passes.{withGain, withPriority, withPicture, withMark, withPosition, withZone, withSize, withScreen, begun, gainPass, priorityPass, levelsPass, basicPass, partsRead, stepsRead, pastDistance, placePass, positionPass, zonePass, sizePass, screenPass, lockPass, groupsPass, renderPass, statePass, rowPass}
+use Rattle.bits.proofs.Makes.{Makes, given as gives, choose, from-here, mapped, bind, after, next, last, at-place, word, said}
 
 -- Basic information
 
@@ -53,39 +42,47 @@ basic-made g r at status =
 
 -- Render information
 
+-- a group's word settles it, or takes the mark away
+abbrev grouped : Bool → Row → Row
+grouped b r = withMark (cond b (r .mark) unsettled) r
+
 module _ (flags : ℕ) (r : Row) where
   -- the row that a position makes, or none
   abbrev placedRow : Option (Placed PositionWord) → Row
-  placedRow o = placedAnew (newPosition o (r .picture .position)) (absolutelySaid o && eqb (flags % 8) 7) r
+  placedRow o = grouped (absolutelySaid o) (withPosition (newPosition o (r .picture .position)) r)
 
   position-made : (first : Bool) → Makes placedRow (optional (isSet 3 flags) (placed (positionWord first))) (positionPass first flags r)
   unfolding positionPass stepsRead newPosition positionWord placePass pastDistance
   position-made first = said _ (isSet 3 flags) (at-place (after _ _ _ λ d. after _ _ _ λ w. next _ (gives w)))
 
-  zone-made : Makes (λ o. withZone (orBefore o (r .picture .zone)) r) (optional (isSet 2 flags) (placed zoneWord)) (zonePass flags r)
+  zone-made : Makes (λ o. grouped (isSome o) (withZone (orBefore o (r .picture .zone)) r)) (optional (isSet 2 flags) (placed zoneWord)) (zonePass flags r)
   unfolding zonePass
   zone-made = said _ (isSet 2 flags) (word _ zoneWord)
 
-  size-made : Makes (λ o. withSize (orBefore o (r .picture .size)) r) (optional (isSet 1 flags) (placed sizeWord)) (sizePass flags r)
+  size-made : Makes (λ o. grouped (isSome o) (withSize (orBefore o (r .picture .size)) r)) (optional (isSet 1 flags) (placed sizeWord)) (sizePass flags r)
   unfolding sizePass
   size-made = said _ (isSet 1 flags) (word _ sizeWord)
 
-  screen-made : Makes (λ o. withScreen (orBefore o (r .picture .screen)) r) (optional (isSet 0 flags) (placed screenWord)) (screenPass flags r)
+  screen-made : Makes (λ o. grouped (isSome o) (withScreen (orBefore o (r .picture .screen)) r)) (optional (isSet 0 flags) (placed screenWord)) (screenPass flags r)
   unfolding screenPass
   screen-made = said _ (isSet 0 flags) (word _ screenWord)
 
--- the three lowest bits of a number are set where it leaves 7 when divided by 8
-lowest-set : (a : Bool) (n : ℕ) → (a && isSet 2 n && isSet 1 n && isSet 0 n && true) ≡ (a && eqb (n % 8) 7)
-unfolding isSet
-lowest-set false n = refl
-lowest-set true n = go (isSet 2 n) (isSet 1 n) (isSet 0 n) refl refl refl
+-- the mark that four groups leave, each on its own, is settled where all of them settle
+groups-mark : (p z n s : Bool) (m : ℤ) →
+    let left = cond s (cond n (cond z (cond p settled unsettled) unsettled) unsettled) unsettled in
+    cond (isFull left) left m ≡ cond (p && z && n && s && true) settled m
+groups-mark p z n s m =
+    rw (both p z, both (p && z) n, both (p && z && n) s) (whole (p && z && n && s))
   where
-    go : (x y z : Bool) → isSet 2 n ≡ x → isSet 1 n ≡ y → isSet 0 n ≡ z → (x && y && z && true) ≡ eqb (n % 8) 7
-    go true true true p q r =
-        sym (eq-eqb (n % 8) 7 (omega (arith, eqb-true (n / 4 % 2) 1 p, eqb-true (n / 2 % 2) 1 q, eqb-true (n / 1 % 2) 1 r, div-div-eq-div-mul n 2 2, div-div-eq-div-mul n 4 2)))
-    go true true false p q r = sym (ne-eqb (n % 8) 7 (omega (arith, eqb-false (n / 1 % 2) 1 r)))
-    go true false z p q r = sym (ne-eqb (n % 8) 7 (omega (arith, eqb-false (n / 2 % 2) 1 q)))
-    go false y z p q r = sym (ne-eqb (n % 8) 7 (omega (arith, eqb-false (n / 4 % 2) 1 p)))
+    both : (a b : Bool) → cond b (cond a settled unsettled) unsettled ≡ cond (a && b) settled unsettled
+    both true true = refl
+    both true false = refl
+    both false true = refl
+    both false false = refl
+
+    whole : (a : Bool) → cond (isFull (cond a settled unsettled)) (cond a settled unsettled) m ≡ cond (a && true) settled m
+    whole true = refl
+    whole false = refl
 
 abbrev renderRow : Row → Render → Row
 renderRow r n = withMark (newMark n (r .mark)) (withPicture (newPicture n (r .picture)) r)
@@ -94,11 +91,12 @@ module _ (first : Bool) (r : Row) where
   groups-made : (flags : ℕ) → Makes (λ w. renderRow r (given w)) (groups first flags) (groupsPass first flags r)
   unfolding groups groupsPass lockPass newPicture newMark settlesAll settles
   groups-made flags =
-      bind _ _ (position-made flags r first) λ p.
-      bind-such _ _ (asked _ _) (zone-made flags _) λ z hz.
-      bind-such _ _ (asked _ _) (size-made flags _) λ n hn.
-      bind-such _ _ (asked _ _) (screen-made flags _) λ s hs.
-      last _ (word _ _) λ l. rw (hz, hn, hs, lowest-set (absolutelySaid p) flags)
+      bind _ _ (position-made flags _ first) λ p.
+      bind _ _ (zone-made flags _) λ z.
+      bind _ _ (size-made flags _) λ n.
+      bind _ _ (screen-made flags _) λ s.
+      bind _ _ (word _ _) λ l.
+      rw (groups-mark (absolutelySaid p) (isSome z) (isSome n) (isSome s) (r .mark)) (gives _)
 
   render-made : (at status : ℕ) → Makes (renderRow r) (render first at status) (renderPass first status r)
   unfolding render renderPass partsRead newPicture newMark settlesAll settles

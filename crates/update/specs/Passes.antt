@@ -1,7 +1,7 @@
 -- Reading and applying at once, as the code does: a row goes in and comes out as the words read make it.
 -- proofs/Bridge.antt shows that a pass is what standard's meaning makes of standard's rule.
-use Prim.Native.Nat.{ℕ, _%_}
-use mathlib.Core.Bool.{Bool, false, not, cond, _&&_}
+use Prim.Native.Nat.{ℕ}
+use mathlib.Core.Bool.{Bool, false, not, cond}
 use lib.Dec.{eqb}
 use lib.IntN.{ℤ, pos}
 use Rattle.bits.specs.Bits.{isSet}
@@ -12,7 +12,8 @@ use Rattle.standard.specs.Tree.{Kind, kindCode, isDynamic, Position, Zone, Size
 use Rattle.standard.specs.Numbers.{silence}
 use Rattle.standard.specs.Updates.{gainWord, priorityWord, differential, absolutely, distance, bit, zoneWord, sized, sizeWord, screenWord, status, tableData}
 use Rattle.standard.specs.Rows.{Picture, Row, defaultPicture}
-use Rattle.standard.specs.Marks.{settled, isAbsolute}
+use Rattle.standard.specs.Marks.{settled, unsettled, isAbsolute}
+use Rattle.standard.specs.Tables.{isFull}
 use Rattle.standard.specs.Meaning.{gainSaid, positionSaid}
 
 -- A row with one part anew
@@ -90,20 +91,24 @@ basicPass g status r =
 
 -- Render information
 
-abbrev pub placed : Position → Bool → Row → Row
-placed v settles r = withMark (cond settles settled (r .mark)) (withPosition v r)
+abbrev pub settle : Row → Row
+settle r = withMark settled r
 
--- an absolute position beside the three other groups settles the picture
-abbrev pub placedBy : ℕ → Row → PositionWord → Row
-placedBy flags r w = placed (positionSaid w (r .picture .position)) (isAbsolute w && eqb (flags % 8) 7) r
+-- the groups begin with a settled row, and each of which something is left takes the mark away
+abbrev pub unsettle : Row → Row
+unsettle r = withMark unsettled r
+
+-- steps go from the position before
+abbrev pub placedBy : Row → PositionWord → Row
+placedBy r w = withMark (cond (isAbsolute w) (r .mark) unsettled) (withPosition (positionSaid w (r .picture .position)) r)
 
 unfoldable pub pastDistance : Row → Parser Row
 pastDistance r = do
   distance
   pure r
 
-unfoldable pub placePass : ℕ → Row → Parser PositionWord → Parser Row
-placePass flags r word = word >>= λ w. pastDistance (placedBy flags r w)
+unfoldable pub placePass : Row → Parser PositionWord → Parser Row
+placePass r word = word >>= λ w. pastDistance (placedBy r w)
 
 -- whether a position is by steps; in block 0 it is not
 unfoldable pub stepsRead : Bool → Parser Bool
@@ -114,17 +119,17 @@ positionPass first flags r =
     cond (isSet 3 flags)
     (do
       d ← stepsRead first
-      placePass flags r (cond d differential absolutely))
-    (pure r)
+      placePass r (cond d differential absolutely))
+    (pure (unsettle r))
 
 abbrev pub zoned : ℕ → Bool → Zone
 zoned n elevated = record { zone = pos n; elevation = bit elevated }
 
 unfoldable pub zonePass : ℕ → Row → Parser Row
-zonePass flags r = ifSaid (isSet 2 flags) zoneWord (λ v. withZone v r) r
+zonePass flags r = ifSaid (isSet 2 flags) zoneWord (λ v. withZone v r) (unsettle r)
 
 unfoldable pub sizePass : ℕ → Row → Parser Row
-sizePass flags r = ifSaid (isSet 1 flags) sizeWord (λ v. withSize v r) r
+sizePass flags r = ifSaid (isSet 1 flags) sizeWord (λ v. withSize v r) (unsettle r)
 
 unfoldable pub sizesPass : Row → Parser Row
 sizesPass r = mapP (λ v. withSize v r) do
@@ -134,21 +139,26 @@ sizesPass r = mapP (λ v. withSize v r) do
   pure (sized w d h)
 
 unfoldable pub screenPass : ℕ → Row → Parser Row
-screenPass flags r = ifSaid (isSet 0 flags) screenWord (λ v. withScreen v r) r
+screenPass flags r = ifSaid (isSet 0 flags) screenWord (λ v. withScreen v r) (unsettle r)
 
 unfoldable pub lockPass : Row → Parser Row
 lockPass r = mapP (λ v. withLock v r) (mapP bit (flag context.object-snap-flag))
 
+-- a mark that was taken away is the mark before
+abbrev pub markOrBefore : ℤ → Row → Row
+markOrBefore m r = withMark (cond (isFull (r .mark)) (r .mark) m) r
+
 unfoldable pub groupsPass : Bool → ℕ → Row → Parser Row
 groupsPass first flags r = do
-  r₁ ← positionPass first flags r
+  r₁ ← positionPass first flags (settle r)
   r₂ ← zonePass flags r₁
   r₃ ← sizePass flags r₂
   r₄ ← screenPass flags r₃
-  lockPass r₄
+  r₅ ← lockPass r₄
+  pure (markOrBefore (r .mark) r₅)
 
 abbrev pub reset : Row → Row
-reset r = withMark settled (withPicture defaultPicture r)
+reset r = settle (withPicture defaultPicture r)
 
 unfoldable pub renderPass : Bool → ℕ → Row → Parser Row
 renderPass first status r =

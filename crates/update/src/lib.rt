@@ -30,10 +30,11 @@ use contexts::BASIC_INFO_STATUS;
 use contexts::OBJECT_NOT_ACTIVE_FLAG;
 use contexts::RENDER_INFO_STATUS;
 use render::parse_render_info;
+use rows::numbers::SETTLED;
+use rows::numbers::UNSETTLED;
 use rows::row::DYNAMIC;
 use rows::row::Row;
 use rows::row::default_picture;
-use state::SETTLED;
 use state::begun;
 use state::silenced;
 
@@ -178,7 +179,7 @@ pub fn held_row(mut row: Row, doubt: i16) -> Row
     ensures { λ r. ⌜ rowSaid r ≡ heldRow doubt (rowSaid row) ⌝ }
 {
     if doubt != 0 {
-        row.mark = 0;
+        row.mark = UNSETTLED;
     }
     row
 }

@@ -1,7 +1,7 @@
 // The position of an object, absolute or by steps.
 ghost use mathlib.Core.Path.{_≡_};
 ghost use mathlib.Core.Bool.{cond};
-ghost use Prim.Native.Nat.{ℕ, _<_, min};
+ghost use Prim.Native.Nat.{_<_, min};
 ghost use lib.IntN.{pos, negℤ, _+ℤ_};
 ghost use Rattle.bits.specs.Say.{saidFlag, saidPassed};
 ghost use Rattle.standard.specs.Updates as standard;
@@ -21,6 +21,7 @@ use crate::contexts::POSITION_X;
 use crate::contexts::POSITION_Y;
 use crate::contexts::POSITION_Z;
 use crate::contexts::POSITION_Z_SIGN;
+use crate::state::unsettle;
 use crate::state::with_position;
 use bits::BitPlace;
 use bits::Flag;
@@ -42,7 +43,7 @@ pub fn parse_position(
     ensures { λ r. ⌜ saidRow r ≡ pass.positionPass first flags (rowSaid row) (now (payload .entry)) (limit .0) (at .0) ⌝ }
 {
     if !is_set(flags, 3) {
-        return Updated::Row(at, row);
+        return Updated::Row(at, unsettle(row));
     }
     match read_differential(payload, limit, at, first) {
         Flag::Refused(refusal) => Updated::Refused(refusal),
@@ -50,7 +51,7 @@ pub fn parse_position(
             if differential {
                 parse_differential(payload, limit, at, row)
             } else {
-                parse_absolute(payload, limit, at, flags, row)
+                parse_absolute(payload, limit, at, row)
             }
         }
     }
@@ -66,9 +67,9 @@ fn read_differential(payload: &[u8], limit: BitPlace, at: BitPlace, first: bool)
     bits::read_flag(payload, limit, at, DIFFERENTIAL_POSITION_FLAG)
 }
 
-// Steps settle nothing, whatever the flags.
+// Steps go from the position before, so they settle nothing.
 fn parse_differential(payload: &[u8], limit: BitPlace, at: BitPlace, row: Row) -> Updated
-    ensures { λ r. ⌜ ((flags : ℕ) → saidRow r ≡ pass.placePass flags (rowSaid row) standard.differential (now (payload .entry)) (limit .0) (at .0)) ⌝ }
+    ensures { λ r. ⌜ saidRow r ≡ pass.placePass (rowSaid row) standard.differential (now (payload .entry)) (limit .0) (at .0) ⌝ }
 {
     match bits::read_signed(payload, limit, at, 3, DIFFERENTIAL_X) {
         Signed::Refused(refusal) => Updated::Refused(refusal),
@@ -79,7 +80,7 @@ fn parse_differential(payload: &[u8], limit: BitPlace, at: BitPlace, row: Row) -
                 Signed::Value(z, at) => {
                     let old = row.picture.position;
                     let steps = Position { x, y, z };
-                    place(payload, limit, at, stepped(old, steps), false, row)
+                    place(payload, limit, at, stepped(old, steps), unsettle(row))
                 }
             },
         },
@@ -110,9 +111,8 @@ fn step(coordinate: i16, by: i16, low: i16, high: i16) -> i16
     }
 }
 
-// Beside the three other groups an absolute position settles the picture.
-fn parse_absolute(payload: &[u8], limit: BitPlace, at: BitPlace, flags: u32, row: Row) -> Updated
-    ensures { λ r. ⌜ saidRow r ≡ pass.placePass flags (rowSaid row) standard.absolutely (now (payload .entry)) (limit .0) (at .0) ⌝ }
+fn parse_absolute(payload: &[u8], limit: BitPlace, at: BitPlace, row: Row) -> Updated
+    ensures { λ r. ⌜ saidRow r ≡ pass.placePass (rowSaid row) standard.absolutely (now (payload .entry)) (limit .0) (at .0) ⌝ }
 {
     match bits::read(payload, limit, at, 6, POSITION_X) {
         Number::Refused(refusal) => Updated::Refused(refusal),
@@ -128,7 +128,7 @@ fn parse_absolute(payload: &[u8], limit: BitPlace, at: BitPlace, flags: u32, row
                             y: coordinate(y),
                             z: height(positive, z),
                         };
-                        place(payload, limit, at, position, flags % 8 == 7, row)
+                        place(payload, limit, at, position, row)
                     }
                 },
             },
@@ -151,19 +151,12 @@ fn height(positive: bool, word: u32) -> i16
 }
 
 // The distance that may follow a position is dropped.
-fn place(
-    payload: &[u8],
-    limit: BitPlace,
-    at: BitPlace,
-    position: Position,
-    settles: bool,
-    row: Row,
-) -> Updated
-    ensures { λ r. ⌜ saidRow r ≡ pass.pastDistance (pass.placed (positionSaid position) settles (rowSaid row)) (now (payload .entry)) (limit .0) (at .0) ⌝ }
+fn place(payload: &[u8], limit: BitPlace, at: BitPlace, position: Position, row: Row) -> Updated
+    ensures { λ r. ⌜ saidRow r ≡ pass.pastDistance (pass.withPosition (positionSaid position) (rowSaid row)) (now (payload .entry)) (limit .0) (at .0) ⌝ }
 {
     match skip_distance(payload, limit, at) {
         Passed::Refused(refusal) => Updated::Refused(refusal),
-        Passed::To(at) => Updated::Row(at, with_position(row, position, settles)),
+        Passed::To(at) => Updated::Row(at, with_position(row, position)),
     }
 }
 

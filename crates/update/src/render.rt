@@ -18,7 +18,9 @@ use crate::contexts::SCREEN_REFERENCE_FLAG;
 use crate::contexts::ZONE_CONSTRAINTS_INDEX;
 use crate::position::parse_position;
 use crate::read_parts;
-use crate::state::SETTLED;
+use crate::state::mark_or_before;
+use crate::state::settle;
+use crate::state::unsettle;
 use crate::state::with_lock;
 use crate::state::with_screen;
 use crate::state::with_size;
@@ -28,6 +30,7 @@ use bits::Flag;
 use bits::Number;
 use bits::Refusal;
 use bits::is_set;
+use rows::numbers::SETTLED;
 use rows::row::Row;
 use rows::row::default_picture;
 
@@ -67,7 +70,7 @@ fn reset_render_info(mut row: Row) -> Row
     row
 }
 
-// The groups that the flags choose, then lock always.
+// The groups that the flags choose, then lock always. The mark begins settled; each group may take it away.
 fn parse_groups(
     payload: &[u8],
     limit: BitPlace,
@@ -78,7 +81,8 @@ fn parse_groups(
 ) -> Updated
     ensures { λ r. ⌜ saidRow r ≡ pass.groupsPass first flags (rowSaid row) (now (payload .entry)) (limit .0) (at .0) ⌝ }
 {
-    let placed = parse_position(payload, limit, at, flags, first, row);
+    let before = row.mark;
+    let placed = parse_position(payload, limit, at, flags, first, settle(row));
     let Updated::Row(at, row) = placed else {
         return placed;
     };
@@ -94,14 +98,18 @@ fn parse_groups(
     let Updated::Row(at, row) = screened else {
         return screened;
     };
-    parse_lock(payload, limit, at, row)
+    let locked = parse_lock(payload, limit, at, row);
+    let Updated::Row(at, row) = locked else {
+        return locked;
+    };
+    Updated::Row(at, mark_or_before(row, before))
 }
 
 fn parse_zone(payload: &[u8], limit: BitPlace, at: BitPlace, flags: u32, row: Row) -> Updated
     ensures { λ r. ⌜ saidRow r ≡ pass.zonePass flags (rowSaid row) (now (payload .entry)) (limit .0) (at .0) ⌝ }
 {
     if !is_set(flags, 2) {
-        return Updated::Row(at, row);
+        return Updated::Row(at, unsettle(row));
     }
     match bits::read(payload, limit, at, 3, ZONE_CONSTRAINTS_INDEX) {
         Number::Refused(refusal) => Updated::Refused(refusal),
@@ -121,7 +129,7 @@ fn parse_size(payload: &[u8], limit: BitPlace, at: BitPlace, flags: u32, row: Ro
     ensures { λ r. ⌜ saidRow r ≡ pass.sizePass flags (rowSaid row) (now (payload .entry)) (limit .0) (at .0) ⌝ }
 {
     if !is_set(flags, 1) {
-        return Updated::Row(at, row);
+        return Updated::Row(at, unsettle(row));
     }
     match bits::read(payload, limit, at, 2, OBJECT_SIZE_INDEX) {
         Number::Refused(refusal) => Updated::Refused(refusal),
@@ -158,7 +166,7 @@ fn parse_screen(payload: &[u8], limit: BitPlace, at: BitPlace, flags: u32, row: 
     ensures { λ r. ⌜ saidRow r ≡ pass.screenPass flags (rowSaid row) (now (payload .entry)) (limit .0) (at .0) ⌝ }
 {
     if !is_set(flags, 0) {
-        return Updated::Row(at, row);
+        return Updated::Row(at, unsettle(row));
     }
     match bits::read_flag(payload, limit, at, SCREEN_REFERENCE_FLAG) {
         Flag::Refused(refusal) => Updated::Refused(refusal),

@@ -6,16 +6,15 @@ ghost use Rattle.standard.specs.Updates.{bit, sized};
 ghost use Rattle.rows.specs.Say.{positionSaid, rowSaid};
 ghost use Rattle.update.specs.Kinds.{kindOf};
 ghost use Rattle.update.specs.Passes as pass;
+use rows::numbers::SETTLED;
 use rows::numbers::SILENCE;
+use rows::numbers::UNSETTLED;
 use rows::row::DYNAMIC;
 use rows::row::Picture;
 use rows::row::Position;
 use rows::row::Row;
 use rows::row::Size;
 use rows::row::Zone;
-
-// The mark of a settled picture.
-pub const SETTLED: i16 = 1;
 
 pub fn number_of(flag: bool) -> i16
     ensures { λ r. ⌜ r ≡ bit flag ⌝ }
@@ -60,15 +59,12 @@ pub fn with_priority(mut row: Row, priority: u32) -> Row
     row
 }
 
-pub fn with_position(mut row: Row, position: Position, settles: bool) -> Row
-    ensures { λ r. ⌜ rowSaid r ≡ pass.placed (positionSaid position) settles (rowSaid row) ⌝ }
+pub fn with_position(mut row: Row, position: Position) -> Row
+    ensures { λ r. ⌜ rowSaid r ≡ pass.withPosition (positionSaid position) (rowSaid row) ⌝ }
 {
     let mut picture = row.picture;
     picture.position = position;
     row.picture = picture;
-    if settles {
-        row.mark = SETTLED;
-    }
     row
 }
 
@@ -116,5 +112,30 @@ pub fn with_lock(mut row: Row, on: bool) -> Row
     let mut picture = row.picture;
     picture.lock = number_of(on);
     row.picture = picture;
+    row
+}
+
+pub fn settle(mut row: Row) -> Row
+    ensures { λ r. ⌜ rowSaid r ≡ pass.settle (rowSaid row) ⌝ }
+{
+    row.mark = SETTLED;
+    row
+}
+
+// Something of a group before is left.
+pub fn unsettle(mut row: Row) -> Row
+    ensures { λ r. ⌜ rowSaid r ≡ pass.unsettle (rowSaid row) ⌝ }
+{
+    row.mark = UNSETTLED;
+    row
+}
+
+// A mark that a group took away is again what it was before all groups.
+pub fn mark_or_before(mut row: Row, before: i16) -> Row
+    ensures { λ r. ⌜ rowSaid r ≡ pass.markOrBefore before (rowSaid row) ⌝ }
+{
+    if row.mark != SETTLED {
+        row.mark = before;
+    }
     row
 }

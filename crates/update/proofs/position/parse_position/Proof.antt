@@ -17,7 +17,7 @@ unfolding positionPass _>>=_ pure
 returns-3 c =
     let differential = c .before .before .before in
     rw (asked (differential .before .before .before), ← (differential .before .before .read-differential .ensures), differential .differential .given .1, c .before .if2 .taken)
-    (c .parse-differential .ensures _)
+    (c .parse-differential .ensures)
 
 returns-4 : tie.Need-returns-4
 unfolding positionPass _>>=_ pure
@@ -31,7 +31,8 @@ unfolding positionPass _>>=_ pure
 parse-position-spec =
     tie.close
     (tie.spec
-    (λ c κs. search needs) (λ c. rw (unset (c .before .is-set .ensures) (c .if1 .taken))) (λ c κs. search needs)
+    (λ c κs. search needs) (λ c κs. search needs)
+    (λ c. rw (c .unsettle .ensures, unset (c .before .before .is-set .ensures) (c .before .if1 .taken))) (λ c κs. search needs)
     (λ c. search needs) (λ c. search needs) (λ c κs. search needs) (λ c κs. search needs)
     (λ c. rw (asked (c .before .before .before .before), ← (c .before .before .before .read-differential .ensures), c .before .refusal .given .1))
     returns-3 returns-4)

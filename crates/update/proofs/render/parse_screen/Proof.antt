@@ -71,7 +71,8 @@ unfolding screenPass screenWord _>>=_ _>>_ mapP pure
 parse-screen-spec =
     tie.close
     (tie.spec
-    (λ c κs. search needs) (λ c. rw (unset (c .before .is-set .ensures) (c .if1 .taken))) (λ c κs. search needs)
+    (λ c κs. search needs) (λ c κs. search needs)
+    (λ c. rw (c .unsettle .ensures, unset (c .before .before .is-set .ensures) (c .before .if1 .taken))) (λ c κs. search needs)
     (λ c. search needs) (λ c. search needs) (λ c κs. search needs) returns-2 (λ c κs. search needs) (λ c. search needs)
     (λ c. search needs) (λ c κs. search needs) (λ c. search needs) (λ c. search needs)
     (λ c. rw (asked (c .before .before .before .before), ← (c .before .before .before .read-flag .ensures), c .before .refusal .given .1))

@@ -41,7 +41,7 @@ use Rattle.standard.proofs.Bounds.{bounded}
 
 -- Tests 5, 6 and 7
 
-unread : (s : List ℕ) (l : Lent) (n : ℕ) → decode s l ≡ unchanged l n → (5 ≤ n) × (n ≤ 7) → Left (decode s l) (Unread n) (l .retained) (l .start) (l .blocks) (l .timings)
+unread : (s : List ℕ) (l : Lent) (n : ℕ) → decode s l ≡ unchanged l n → (number.room ≤ n) × (n ≤ number.size) → Left (decode s l) (Unread n) (l .retained) (l .start) (l .blocks) (l .timings)
 unread s l n e h = rw e (record { answer = refl; itsCase = h; retained = refl; start = refl; blocks = refl; timings = refl })
 
 module _ (s : List ℕ) (l : Lent) where

@@ -8,6 +8,7 @@ ghost use Rattle.standard.specs.Rows.{is};
 ghost use Rattle.standard.specs.Meaning.{unsettledCount};
 ghost use Rattle.standard.specs.Tables.{rowsOf};
 use rows::numbers::ROW_WIDTH;
+use rows::numbers::UNSETTLED;
 use rows::table::mark_at;
 
 pub fn count_unsettled(blocks: &[i16], from: usize, count: usize) -> u32
@@ -25,5 +26,5 @@ pub fn count_unsettled(blocks: &[i16], from: usize, count: usize) -> u32
 fn one_if_unsettled(mark: i16) -> u32
     ensures { λ r. ⌜ (r ≡ cond (is 0 mark) 1 0) × (r ≤ 1) ⌝ }
 {
-    if mark == 0 { 1 } else { 0 }
+    if mark == UNSETTLED { 1 } else { 0 }
 }

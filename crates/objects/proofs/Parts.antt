@@ -45,7 +45,7 @@ few-timed t = mapped-such _ few-blocks (λ ts h. h .1)
 -- so many rows of so many objects fit the blocks' table
 pub fit : (m n : ℕ) → m ≤ blockLimit → n ≤ objectLimit → m * n * rowWidth ≤ blocksLength
 unfolding blockLimit objectLimit rowWidth blocksLength
-fit m n h k = let l : m * n ≤ 8 * n = mul-le-mul-right n h in omega arith
+fit m n h k = let l : m * n ≤ blockLimit * n = mul-le-mul-right n h in omega arith
 
 -- the number of an element's blocks, and the two tables as they are left
 pub data Left : Type 0 where

@@ -1,6 +1,6 @@
 // What stands before the objects: the number of blocks, their timings and the reserved bits.
 ghost use mathlib.Core.Path.{_≡_};
-ghost use Prim.Native.Nat.{_+_, _*_, _≤_};
+ghost use Prim.Native.Nat.{_+_, _*_, _≤_, _<_, _^_};
 ghost use lib.ListN.{length};
 ghost use Rattle.bits.specs.Parsed.{mapParsed, times};
 ghost use Rattle.bits.specs.Say.{said, saidPassed};
@@ -16,6 +16,9 @@ use bits::Flag;
 use bits::Number;
 use bits::Passed;
 use bits::Refusal;
+
+// A block starts a multiple of so many samples behind the offset.
+const BLOCK_OFFSET: u32 = 32;
 
 const SAMPLE_OFFSETS: [u32; 4] = [8, 16, 18, 24];
 
@@ -100,7 +103,7 @@ fn parse_timings(
     block_count: usize,
     timings: &mut [u16],
 ) -> Passed
-    requires { ⌜ («sample_offset» ≤ 31) × (2 * «block_count» ≤ length (now timings)) ⌝ }
+    requires { ⌜ («sample_offset» < 2 ^ 5) × (2 * «block_count» ≤ length (now timings)) ⌝ }
     ensures { λ r. ⌜ Fills (2 * «block_count») (mapParsed (λ ts. over (timingNumbers ts) (now (timings .entry))) (times «block_count» (paper.timing «sample_offset») (now (payload .entry)) (limit .0) (at .0))) (now (timings .entry)) r (now (timings .exit)) ⌝ }
 {
     let mut place = at;
@@ -122,7 +125,7 @@ fn parse_timing(
     timings: &mut [u16],
     first: usize,
 ) -> Passed
-    requires { ⌜ («sample_offset» ≤ 31) × (first + 2 ≤ length (now timings)) ⌝ }
+    requires { ⌜ («sample_offset» < 2 ^ 5) × (first + 2 ≤ length (now timings)) ⌝ }
     ensures { λ r. ⌜ Fills (first + 2) (mapParsed (putTiming (now (timings .entry)) first) (paper.timing «sample_offset» (now (payload .entry)) (limit .0) (at .0))) (now (timings .entry)) r (now (timings .exit)) ⌝ }
 {
     match bits::read(payload, limit, at, 6, contexts::BLOCK_OFFSET_FACTOR) {
@@ -130,7 +133,7 @@ fn parse_timing(
         Number::Value(factor, next) => match read_ramp_duration(payload, limit, next) {
             Number::Refused(refusal) => Passed::Refused(refusal),
             Number::Value(ramp_duration, end) => {
-                timings[first] = (sample_offset + factor * 32) as u16;
+                timings[first] = (sample_offset + factor * BLOCK_OFFSET) as u16;
                 timings[first + 1] = ramp_duration as u16;
                 Passed::To(end)
             }

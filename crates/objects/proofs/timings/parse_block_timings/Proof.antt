@@ -7,7 +7,7 @@ use Rattle.bits.specs.Parsed.{got, andThen, mapParsed, times}
 use Rattle.bits.specs.Say.{said}
 use Rattle.bits.specs.declared.Passed.{Passed}
 use Rattle.bits.proofs.Laws.{gives, read-lt}
-use Rattle.standard.specs.Numbers.{timingsLength}
+use Rattle.standard.specs.Numbers.{blockLimit, timingsLength}
 use Rattle.standard.specs.Syntax.{timing, reserved}
 use Rattle.standard.specs.Tables.{timingNumbers}
 use Rattle.standard.specs.Calls.{over}
@@ -28,14 +28,15 @@ cut-count c =
     begin (rw (head-read, ← (o .before .before .read-sample-offset .ensures), o .offset .given .1, ← (c .before .before .read .ensures), c .enum-told2 .given .1))
 
 -- at most eight blocks
-few : (c : tie.After-known-told2) → c .before .coded .given .0 .0 < 8
+few : (c : tie.After-known-told2) → c .before .coded .given .0 .0 < blockLimit
+unfolding blockLimit
 few c = gives said (read-lt _ _) (c .before .before .before .read .ensures) (c .before .coded .given .1)
 
 parse-timings-requires : tie.Need-parse-timings-requires
-unfolding timingsLength
+unfolding blockLimit timingsLength
 parse-timings-requires c κs =
     let o = c .before .before .before .before .before .before in
-    (gives said offset-le (o .before .before .read-sample-offset .ensures) (o .offset .given .1), omega (arith, few (c .before)))
+    (omega (arith, gives said offset-le (o .before .before .read-sample-offset .ensures) (o .offset .given .1)), omega (arith, few (c .before)))
 
 -- what is left to read goes by what the timings gave
 at-timings : (c : tie.After-parse-timings) {r : Passed} → c .parse-timings .result ≡ r →
@@ -45,7 +46,7 @@ at-timings : (c : tie.After-parse-timings) {r : Passed} → c .parse-timings .re
     Filling timingsLength (mapParsed (timedBy (a .timings .now)) (blockTimings (a .payload .now) (a .limit .0) (a .at .0))) (a .timings .now)
     (andThen (leaving t r) (λ t′ q. andThen (reserved (a .payload .now) (a .limit .0) q) (λ u q. got (record { count = h .before .coded .given .0 .0 + 1; table = t′ }) q)))
     t
-unfolding timingsLength
+unfolding blockLimit timingsLength
 at-timings c e =
     let h = c .before .before in
     let o = h .before .before .before .before .before in
@@ -68,6 +69,7 @@ all c =
     to (at-timings (n .before .before .before .before) (n .next .given .1)) (rw (← (c .before .before .before .skip-reserved .ensures), c .before .end .given .1))
 
 pub parse-block-timings-spec : {M : Type 1} → statement M
+unfolding blockLimit
 parse-block-timings-spec =
     tie.close
     (tie.spec

@@ -33,7 +33,7 @@ def missing():
     names = [name for name in (EMULATOR, CROSS_COMPILER) if not shutil.which(name)]
     if CROSS_COMPILER in names or not root():
         names.append(C_LIBRARY)
-    return [f"{name} for Arm (in Debian, {PACKAGES[name]})" for name in names]
+    return [f"{name} (in Debian, {PACKAGES[name]})" for name in names]
 
 
 def compiler_and_runner():

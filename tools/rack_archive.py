@@ -4,18 +4,26 @@ import pathlib
 import platform
 import tempfile
 
-from at_hand import named_file, prover, run
+from at_hand import named_file, prover, run, stop
 from crate_list import TOP
 from machine_code import compiled, own_part
 
 NAME = "rack"
 FOLDER = TOP / "target" / "staticlib"
+MAGIC = b"!<arch>\n"
+
+
+def named(word):
+    """An archive that was named, in place of one that is made."""
+    archive = named_file(word, "the archive")
+    with archive.open("rb") as file:
+        return archive if file.read(len(MAGIC)) == MAGIC else stop(f"{word} is not an archive")
 
 
 def chosen(words):
     """The words before `--archive FILE`, and what gives the archive: that file, or one that is made."""
     if words[-2:-1] == ["--archive"]:
-        archive = named_file(words[-1], "the archive")
+        archive = named(words[-1])
         return words[:-2], lambda: archive
     return words, made
 

@@ -17,7 +17,7 @@ pub enum Arrival {
 // Reads once. No bytes mean the end, so there has to be room for some.
 pub fn arrive(bytes: &mut [u8], kept: usize) -> Arrival
     requires { ⌜ (kept < length (now bytes)) × (length (now bytes) ≤ inputLength) ⌝ }
-    ensures { λ r. ⌜ Arrives r ⌝ }
+    ensures { λ r. ⌜ Arrives kept (now (bytes .entry)) r (now (bytes .exit)) ⌝ }
 {
     let got = libc::read(STDIN_FILENO, &mut bytes[kept..]);
     if got < 0 {

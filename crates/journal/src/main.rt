@@ -3,9 +3,12 @@ mod input;
 mod output;
 mod place;
 
-ghost use Prim.Native.Nat.{_+_, _-_, _<_};
+ghost use Prim.Native.Nat.{_+_, _<_};
+ghost use lib.ListN.{take};
+ghost use Rattle.oamd.specs.Promises.{lent};
 ghost use Rattle.journals.specs.Promises.{recordLimit};
 ghost use Rattle.journal.specs.Stands.{Stands};
+ghost use Rattle.journal.specs.Steps.{standing, Stopped, ReadOn, Turned};
 use crate::input::Arrival;
 use crate::input::INPUT_LENGTH;
 use crate::input::arrive;
@@ -25,25 +28,24 @@ use rows::numbers::RETAINED_LENGTH;
 use rows::numbers::START_LENGTH;
 use rows::numbers::TIMINGS_LENGTH;
 
-// The last line, and all that wait.
+// The last line waits behind the others.
 fn stop(place: Place, ending: Ending, lines: &mut [u8; OUTPUT_LENGTH]) -> Place
     requires { ⌜ Stands place ⌝ }
-    ensures { λ r. ⌜ Stands r ⌝ }
+    ensures { λ r. ⌜ (Stands r) × (Stopped place ending (now (lines .entry)) r (now (lines .exit))) ⌝ }
 {
     let mut line = [0u8; LINE_LENGTH];
     let n = put_last(&mut line, place.records, ending);
     let waiting = emit(lines, place.waiting, &line, n);
-    flush(lines, waiting);
-    place.stopped()
+    place.stopped(waiting)
 }
 
 // Whoever waits for the lines of what has arrived gets them before the program waits for more.
 fn read_on(place: Place, arrived: &mut [u8; INPUT_LENGTH], lines: &mut [u8; OUTPUT_LENGTH]) -> Place
     requires { ⌜ (Stands place) × (place .filled < place .from + recordLimit) ⌝ }
-    ensures { λ r. ⌜ Stands r ⌝ }
+    ensures { λ r. ⌜ (Stands r) × (ReadOn place (now (arrived .entry)) (now (lines .entry)) r (now (arrived .exit)) (now (lines .exit))) ⌝ }
 {
     if !flush(lines, place.waiting) {
-        return place.stopped();
+        return place.cut_off();
     }
     let kept = keep(arrived, place.from, place.filled);
     let rest = place.refilled(kept);
@@ -71,6 +73,7 @@ fn turn(
 ) -> Place
     requires { ⌜ Stands place ⌝ }
     ensures { λ r. ⌜ Stands r ⌝ }
+    ensures { λ r. ⌜ Turned (standing place (now (arrived .entry)) (lent (now (retained .entry)) (now (start .entry)) (now (blocks .entry)) (now (timings .entry)))) (take (place .waiting) (now (lines .entry))) r (standing r (now (arrived .exit)) (lent (now (retained .exit)) (now (start .exit)) (now (blocks .exit)) (now (timings .exit)))) (take (r .waiting) (now (lines .exit))) ⌝ }
 {
     let mut line = [0u8; LINE_LENGTH];
     let number = std::num::wrapping_add_u64(place.records, 1);
@@ -86,7 +89,7 @@ fn turn(
     ) {
         Printed::Line { used, length } => {
             let waiting = emit(lines, place.waiting, &line, length);
-            place.used(used, waiting)
+            place.used(number, used, waiting)
         }
         Printed::More => read_on(place, arrived, lines),
         Printed::Unknown => stop(place, Ending::BadMark(place.offset), lines),
@@ -114,8 +117,9 @@ fn main() {
             &mut timings,
             &mut lines,
         );
-        if place.ended {
+        if place.ended | place.failed {
             turns = 0;
         }
     }
+    flush(&lines, place.waiting);
 }

@@ -1,4 +1,6 @@
 // Lines wait in a buffer, and are written together.
+ghost use lib.ListN.{take};
+ghost use Rattle.journal.specs.Waits.{Emits};
 use journals::buffers::append;
 use journals::buffers::part;
 use journals::lines::LINE_LENGTH;
@@ -17,7 +19,9 @@ pub fn emit(
     waiting: usize,
     line: &[u8; LINE_LENGTH],
     length: usize,
-) -> usize {
+) -> usize
+    ensures { λ r. ⌜ Emits (take waiting (now (lines .entry))) (take length (now (line .entry))) (take r (now (lines .exit))) ⌝ }
+{
     let text = part(line, 0, length);
     let next = append(lines, waiting, text);
     if next > waiting {

@@ -13,6 +13,7 @@ use Rattle.journals.specs.declared.prints.Printed.the-variants as printe
 use Rattle.journals.specs.declared.lines.Ending.{Ending}
 use Rattle.journals.specs.declared.lines.Ending.the-variants as ending
 
+-- Where a program stands
 pub record Standing : Type 0 where
   pub records : ℕ  -- printed
   pub offset : ℕ  -- bytes used
@@ -48,6 +49,7 @@ pub data Goes (p : Standing) : List ℕ → List ℕ → Standing → Type 0 whe
   arrives : {l : Lent} {line : List ℕ} → Called p printed.More l line → (part : List ℕ)
       → Goes p part [] (record { records = p .records; offset = p .offset; tables = l; unused = p .unused ++ part })
 
+-- no whole record is left
 abbrev pub leftOver : ℕ → List ℕ → Ending
 leftOver offset [] = ending.Complete
 leftOver offset (a ∷ s) = ending.Torn offset

@@ -1,20 +1,20 @@
 -- What an accepted payload leaves in the frame tables, read back.
-use Prim.Native.Nat.{ℕ, _+_, _*_}
+use Prim.Native.Nat.{ℕ, zero, suc, _*_, _<_}
 use mathlib.Core.Path.{_≡_, _∙_, ap}
-use mathlib.Core.List.{List, [], _∷_, map}
+use mathlib.Core.List.{List, [], _∷_, append-assoc, map}
 use native.Mathlib.Omega.{arith}
 use lib.IntN.{ℤ}
 use lib.ListN.{length, getD, drop, length-map}
-use Rattle.bits.proofs.Always.{All}
+use Rattle.bits.proofs.Always.{All, all-to}
 use Rattle.standard.specs.Tree.{Object, Tree, kindsOf}
 use Rattle.standard.specs.Rows.{Row, State, noRow}
 use Rattle.standard.specs.Meaning.{startRows, objectRows, allRows, gainOf, frameRows}
-use Rattle.standard.specs.Tables.{rowsNumbers, rowsOf, byBlock, timingsOf}
+use Rattle.standard.specs.Tables.{rowsNumbers, rowsOf, inBlock, byBlock, timingsOf}
 use Rattle.standard.specs.Calls.{Lent, over, accept}
 use Rattle.standard.proofs.Starts.{start-length}
 use Rattle.standard.proofs.Frames.{object-rows-length, frame-rows-length}
-use Rattle.standard.proofs.Blocks.{Reach, blocks-length, blocks-all}
-use Rattle.standard.proofs.Laid.{rows-back, timings-back}
+use Rattle.standard.proofs.Blocks.{blocks-length, blocks-all}
+use Rattle.standard.proofs.Laid.{rows-back, rows-append, timings-back}
 use Rattle.standard.proofs.Counts.{Sized}
 
 -- as many rows as there are objects, and as many again for each block
@@ -38,22 +38,42 @@ pub blocks-written : (l : Lent) (st : State) (t : Tree) → rowsOf (length (t .t
 unfolding accept
 blocks-written l st t = rows-written (blockRows st t) (l .blocks) (length (t .timings) * length (t .objects)) (blocks-count st t)
 
+-- the rows of the first block stand first
+pub first-written : (l : Lent) (st : State) (t : Tree) → 0 < length (t .timings) → rowsOf (length (t .objects)) (accept l st t .lent .blocks) ≡ inBlock 0 (frameRows st t)
+unfolding accept byBlock
+first-written l st t h = go (length (t .timings)) h
+  where
+    rows : List Row
+    rows = inBlock 0 (frameRows st t)
+
+    count : length rows ≡ length (t .objects)
+    count = length-map (frameRows st t) (λ (r : List Row). getD r 0 noRow) ∙ frame-rows-length st t
+
+    go : (m : ℕ) → 0 < m → rowsOf (length (t .objects)) (over (rowsNumbers (byBlock m 0 (frameRows st t))) (l .blocks)) ≡ rows
+    go zero k = absurd (omega arith)
+    go (suc m) k =
+        let later = byBlock m 1 (frameRows st t) in
+        rw (← count, rows-append rows later, append-assoc (rowsNumbers rows) (rowsNumbers later) _) (rows-back rows _)
+
 pub timings-written : (l : Lent) (st : State) (t : Tree) → timingsOf (length (t .timings)) (accept l st t .lent .timings) ≡ t .timings
 unfolding accept
 timings-written l st t = timings-back (t .timings) _
 
--- what all rows of a frame have, its block rows have
+-- every object has a row in each block
 
-rows-reach : (n : ℕ) (os : List Object) (rs : List Row) (gs : List ℤ) → All (λ (o : Object). length (o .updates) ≡ n) os → All (Reach (0 + n)) (allRows os rs gs)
+rows-full : (n : ℕ) (os : List Object) (rs : List Row) (gs : List ℤ) → All (λ (o : Object). length (o .updates) ≡ n) os → All (λ (r : List Row). length r ≡ n) (allRows os rs gs)
 unfolding allRows
-rows-reach n [] rs gs h = tt
-rows-reach n (o ∷ os) rs gs h =
+rows-full n [] rs gs h = tt
+rows-full n (o ∷ os) rs gs h =
     let r = getD rs 0 noRow in
-    let e = object-rows-length (o .kind) (o .updates) gs r in
-    let k = h .0 in
-    (omega arith, rows-reach n os (drop 1 rs) (map gainOf (objectRows (o .kind) r (o .updates) gs)) (h .1))
+    (object-rows-length (o .kind) (o .updates) gs r ∙ h .0, rows-full n os (drop 1 rs) (map gainOf (objectRows (o .kind) r (o .updates) gs)) (h .1))
 
-pub block-rows-have : (P : Row → Type 0) (st : State) (t : Tree) → Sized t → All (All P) (frameRows st t) → All P (blockRows st t)
+pub frame-full : (st : State) (t : Tree) → Sized t → All (λ (r : List Row). length r ≡ length (t .timings)) (frameRows st t)
 unfolding frameRows
+frame-full st t n = rows-full (length (t .timings)) (t .objects) (startRows st (kindsOf t)) [] (n .full)
+
+-- what all rows of a frame have, its block rows have
+pub block-rows-have : (P : Row → Type 0) (st : State) (t : Tree) → Sized t → All (All P) (frameRows st t) → All P (blockRows st t)
 block-rows-have P st t n h =
-    blocks-all P (length (t .timings)) 0 (frameRows st t) h (rows-reach (length (t .timings)) (t .objects) (startRows st (kindsOf t)) [] (n .full))
+    let m = length (t .timings) in
+    blocks-all P m 0 (frameRows st t) h (all-to (frameRows st t) (λ (r : List Row) (e : length r ≡ m). omega arith) (frame-full st t n))

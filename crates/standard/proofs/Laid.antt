@@ -1,12 +1,12 @@
 -- What is laid out in a table is read back: rows, timings and the retained state.
-use Prim.Native.Nat.{ℕ, zero, suc, _+_, _*_, _≤_, _<_}
+use Prim.Native.Nat.{ℕ, zero, suc, _+_, _*_, _-_, _≤_, _<_}
 use mathlib.Core.Path.{_≡_, refl, sym, _∙_, ap}
 use mathlib.Core.List.{List, [], _∷_, _++_, append-assoc}
 use native.Mathlib.Omega.{arith}
 use native.Mathlib.Nat.{zero-mul}
 use lib.IntN.{ℤ}
-use lib.ListN.{length, getD, take, drop, length-append, length-drop, length-replicate}
-use lib.Seq.{drop-append-add}
+use lib.ListN.{length, getD, take, drop, replicate, length-append, length-drop, length-replicate, replicate-append-replicate}
+use lib.Seq.{drop-append-seam, drop-append-add}
 use Rattle.standard.specs.Numbers.{rowWidth, objectLimit, retainedHead, retainedLength}
 use Rattle.standard.specs.Tree.{Timing}
 use Rattle.standard.specs.Rows.{Row, State, noRow}
@@ -15,6 +15,13 @@ use Rattle.standard.specs.Calls.{over, rowPart}
 
 pub over-length : {A : Type 0} (new l : List A) → length new ≤ length l → length (over new l) ≡ length l
 over-length new l h = simp (length-append, length-drop) (omega arith)
+
+-- one thing over more of it
+pub over-same : {A : Type 0} (k n : ℕ) (a : A) → k ≤ n → over (replicate k a) (replicate n a) ≡ replicate n a
+over-same k n a h =
+    let e : n ≡ k + (n - k) = omega arith in
+    let split : replicate n a ≡ replicate k a ++ replicate (n - k) a = ap (λ m. replicate m a) e ∙ sym (replicate-append-replicate k (n - k) a) in
+    ap (over (replicate k a)) split ∙ ap (λ z. replicate k a ++ z) (drop-append-seam (replicate k a) (replicate (n - k) a)) ∙ sym split
 
 -- One row
 
@@ -67,6 +74,11 @@ pub timings-back : (ts : List Timing) (z : List ℕ) → timingsOf (length ts) (
 unfolding timingsOf timingNumbers
 timings-back [] z = refl
 timings-back (t ∷ ts) z = ap (λ q. t ∷ q) (timings-back ts z)
+
+pub timings-length : (ts : List Timing) → length (timingNumbers ts) ≡ 2 * length ts
+unfolding timingNumbers
+timings-length [] = refl
+timings-length (t ∷ ts) = let h = timings-length ts in omega arith
 
 -- The retained state
 

@@ -14,10 +14,16 @@ pub mod Forms
 pub mod FrameForms
 pub mod Laid
 pub mod Blocks
+pub mod Bounds
+pub mod Endings
+pub mod Outcomes
 pub mod Tabled
 pub mod Frame
+pub mod Lengths
 pub mod OnCalls
 pub mod MarksOnCalls
+pub mod Threaded
+pub mod FromZeros
 pub mod Refusals
 pub mod ShownRows
 pub mod Ratio
@@ -35,4 +41,3 @@ pub mod ReadingCases
 pub mod ElementCases
 pub mod TableCases
 pub mod WrongDecoders
-pub mod Bounds

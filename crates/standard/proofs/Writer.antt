@@ -8,7 +8,7 @@ use lib.IntN.{ℤ, pos, negℤ}
 use lib.ListN.{length, replicate}
 use Rattle.standard.specs.Computed.{computed}
 use Rattle.standard.specs.Journal.{Record, resetNotice}
-use Rattle.standard.specs.Cases.{Case, refuses, accepts, plainRow, headOfA, same, eqℤ, sameℤ, tablesAfter, answerNumbers, isCount, holds, allHold}
+use Rattle.standard.specs.Cases.{Case, refuses, accepts, plainRow, headOfA, same, eqℤ, sameℤ, answerNumbers, isCount, holds, allHold}
 
 -- Bits and bytes
 
@@ -197,7 +197,7 @@ fails s n c p = refuses (resetNotice ∷ []) s n c p
 
 -- Everything opened, for the tables of cases: `unfolding written`
 unfoldable pub written : Unit {0}
-unfolding computed same eqℤ sameℤ tablesAfter answerNumbers isCount holds allHold flatten _⊳_ bytesFrom bytes filled sizeGroups element elements dynamicOnly said saidWithLfe block timed blocks off on kept unity silent level copied usual priority spot place to moved free locked plain rich groups first gives shows fails
+unfolding computed same eqℤ sameℤ answerNumbers isCount holds allHold flatten _⊳_ bytesFrom bytes filled sizeGroups element elements dynamicOnly said saidWithLfe block timed blocks off on kept unity silent level copied usual priority spot place to moved free locked plain rich groups first gives shows fails
 written = tt
 
 -- at rest it is document 01's A

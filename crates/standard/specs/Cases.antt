@@ -8,8 +8,9 @@ use lib.ListN.{length, take}
 use Rattle.bits.specs.Parsed.{Parsed, got, refused}
 use Rattle.standard.specs.Assignment.{objectCount}
 use Rattle.standard.specs.Updates.{decibels}
-use Rattle.standard.specs.Calls.{Lent, Answer, decode, timingCall}
-use Rattle.standard.specs.Journal.{Record, replyTo, freshTables}
+use Rattle.standard.specs.Calls.{Answer, decode, timingCall}
+use Rattle.standard.specs.Journal.{Record, freshTables}
+use Rattle.standard.specs.Events.{run, after}
 
 -- Equality as a test
 
@@ -45,10 +46,6 @@ pub data Case : Type 0 where
   -- a payload whose object count passes the count rule
   counts : List ℕ → ℕ → Case
 
-unfoldable pub tablesAfter : Lent → List Record → Lent
-tablesAfter l [] = l
-tablesAfter l (r ∷ rs) = tablesAfter (replyTo l r .lent) rs
-
 unfoldable pub answerNumbers : Answer → List ℕ
 answerNumbers a = a .verdict .number ∷ a .verdict .context ∷ a .verdict .place ∷ a .objects ∷ a .blocks ∷ a .unsettled ∷ []
 
@@ -57,9 +54,9 @@ isCount (got m p) n = eqb m n
 isCount (refused r) n = false
 
 unfoldable pub holds : Case → Bool
-holds (refuses rs s n c p) = same (answerNumbers (decode s (tablesAfter freshTables rs) .answer)) (n ∷ c ∷ p ∷ 0 ∷ 0 ∷ 0 ∷ [])
+holds (refuses rs s n c p) = same (answerNumbers (decode s (run after freshTables rs) .answer)) (n ∷ c ∷ p ∷ 0 ∷ 0 ∷ 0 ∷ [])
 holds (accepts rs s ns start blocks timings) =
-    let d = decode s (tablesAfter freshTables rs) in
+    let d = decode s (run after freshTables rs) in
     same (answerNumbers (d .answer)) (0 ∷ 0 ∷ 0 ∷ ns)
     && sameℤ (take (length start) (d .lent .start)) start
     && sameℤ (take (length blocks) (d .lent .blocks)) blocks

@@ -14,9 +14,9 @@ use Rattle.standard.specs.Timing.{rising, apart, timingTest}
 use Rattle.standard.specs.Ramps.{still, walk, choice, fraction}
 use Rattle.standard.specs.Shown.{shownGain, shown, nothingShown}
 use Rattle.standard.specs.Calls.{hasRoom, accept, decline, settle, decode, reset, gap, timingCall, rampCall, rowPart, rowNumber, partCall, shownCall}
-use Rattle.standard.specs.Events.{first, second, run, firstCall, secondCall}
+use Rattle.standard.specs.Events.{first, second, run, after, firstGets, secondGets, firstCall, secondCall, firstTurn, secondTurn}
 use Rattle.standard.specs.Journal.{payloadStep, step, rest, journalFrom, journal, replyTo, freshTables, digitsOf, decimal, spaced, answerText, replyText, line, lastLine, linesFrom, printed}
 
 unfoldable pub computed : Unit {0}
-unfolding bitAt field isSet _>>=_ _>>_ mapP pure refuse within refusedAs times optional each here theEnd goTo require placed read flag skip zeros padding signed readSigned laterGroups variableBits rowWidth objectLimit blockLimit retainedHead retainedLength startLength blocksLength timingsLength payloadLimit elementLimit frameLength extended version objectCount onlyDynamic chosen standardBeds nonstandardBeds oneBed joined beds isfCounts isfs dynamics skipBytes contents assignment decibels gainWord priorityWord basic differential absolutely distance positionWord bit zoneWord sized sizeWord screenWord groups render status activeUpdate tableData update object sampleOffsets sampleOffset rampDurations ramp timing reserved objectElement trim elementCount elementSize alternate once content element elements present body payload syntax fresh defaultPicture marked settles settlesAll newMark rowMark heldRow defaultRow sameKinds startRows copiedGain gainSaid newGain clamp stepped positionSaid newPosition newPicture rowPicture updated objectRows allRows frameRows lastRow lastRows retain unsettledCount taken retainIf decoded gapped rowNumbers rowOf rowsNumbers rowsOf byBlock timingNumbers timingsOf countOf stateOf stateNumbers gainForm positionTests positionForm zoneForm sizeForm pictureTests pictureForm markForm isDefault activeForm fixedForm shownTests shownForm rowForm allForm inForm rising apart timingTest still walk choice fraction shownGain shown nothingShown hasRoom accept decline settle decode reset gap timingCall rampCall rowPart rowNumber partCall shownCall first second run firstCall secondCall payloadStep step rest journalFrom journal replyTo freshTables digitsOf decimal spaced answerText replyText line lastLine linesFrom printed
+unfolding bitAt field isSet _>>=_ _>>_ mapP pure refuse within refusedAs times optional each here theEnd goTo require placed read flag skip zeros padding signed readSigned laterGroups variableBits rowWidth objectLimit blockLimit retainedHead retainedLength startLength blocksLength timingsLength payloadLimit elementLimit frameLength extended version objectCount onlyDynamic chosen standardBeds nonstandardBeds oneBed joined beds isfCounts isfs dynamics skipBytes contents assignment decibels gainWord priorityWord basic differential absolutely distance positionWord bit zoneWord sized sizeWord screenWord groups render status activeUpdate tableData update object sampleOffsets sampleOffset rampDurations ramp timing reserved objectElement trim elementCount elementSize alternate once content element elements present body payload syntax fresh defaultPicture marked settles settlesAll newMark rowMark heldRow defaultRow sameKinds startRows copiedGain gainSaid newGain clamp stepped positionSaid newPosition newPicture rowPicture updated objectRows allRows frameRows lastRow lastRows retain unsettledCount taken retainIf decoded gapped rowNumbers rowOf rowsNumbers rowsOf byBlock timingNumbers timingsOf countOf stateOf stateNumbers gainForm positionTests positionForm zoneForm sizeForm pictureTests pictureForm markForm isDefault activeForm fixedForm shownTests shownForm rowForm allForm inForm rising apart timingTest still walk choice fraction shownGain shown nothingShown hasRoom accept decline settle decode reset gap timingCall rampCall rowPart rowNumber partCall shownCall first second run after firstGets secondGets firstCall secondCall firstTurn secondTurn payloadStep step rest journalFrom journal replyTo freshTables digitsOf decimal spaced answerText replyText line lastLine linesFrom printed
 computed = tt

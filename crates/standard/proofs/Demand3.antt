@@ -14,9 +14,9 @@ use Rattle.standard.specs.Meaning.{defaultRow, heldRow, sameKinds, start
 use Rattle.standard.specs.Events.{Event, resets, heard, missed, first, second, run}
 use Rattle.standard.proofs.Small.{number-is, Pairs}
 use Rattle.standard.proofs.Starts.{start-each}
-use Rattle.standard.proofs.Frames.{last-rows-have}
+use Rattle.standard.proofs.RowsOfFrame.{last-rows-have}
 use Rattle.standard.proofs.MarkLaws.{mark-none, none-differs}
-use Rattle.standard.proofs.FirstBlock.{TreeForm, first-block}
+use Rattle.standard.proofs.FirstUpdates.{TreeForm, first-block}
 use Rattle.standard.proofs.Agreement.{Same, Settled, Starts, RowAgree, frames-agree}
 
 -- Fixed kinds keep the default picture

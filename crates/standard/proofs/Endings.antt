@@ -17,7 +17,7 @@ use Rattle.standard.specs.Meaning.{taken}
 use Rattle.standard.specs.Tables.{stateOf, inForm}
 use Rattle.standard.specs.Calls.{Lent, Done, unchanged, hasRoom, accept, decline, settle, decode}
 use Rattle.standard.proofs.Payload.{InTree}
-use Rattle.standard.proofs.FirstBlock.{TreeForm, first-block}
+use Rattle.standard.proofs.FirstUpdates.{TreeForm, first-block}
 use Rattle.standard.proofs.Words.{WordsOk, words-ok}
 use Rattle.standard.proofs.Counts.{Sized, sized}
 use Rattle.standard.proofs.Bounds.{Bounded, bounded}

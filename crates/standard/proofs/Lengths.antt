@@ -19,8 +19,8 @@ use Rattle.standard.specs.Calls.{Lent, over, hasRoom, accept, decline, d
 use Rattle.standard.specs.Journal.{Record, payload, gapNotice, resetNotice, replyTo}
 use Rattle.standard.specs.Events.{after}
 use Rattle.standard.proofs.Small.{and-left, and-right}
-use Rattle.standard.proofs.Frames.{last-rows-length}
-use Rattle.standard.proofs.Frame.{blockRows, starts-count, blocks-count}
+use Rattle.standard.proofs.RowsOfFrame.{last-rows-length}
+use Rattle.standard.proofs.ReadBack.{blockRows, starts-count, blocks-count}
 use Rattle.standard.proofs.Laid.{over-length, rows-length, timings-length, state-length}
 use Rattle.standard.proofs.Counts.{Sized}
 use Rattle.standard.proofs.Endings.{ends}

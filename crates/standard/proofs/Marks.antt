@@ -14,9 +14,9 @@ use Rattle.standard.specs.Tables.{inBlock}
 use Rattle.standard.specs.Events.{Event, resets, heard, missed, second, run}
 use Rattle.standard.proofs.Small.{and-right, nought-differs, Pairs}
 use Rattle.standard.proofs.Starts.{start-each}
-use Rattle.standard.proofs.Frames.{last-rows-have}
+use Rattle.standard.proofs.RowsOfFrame.{last-rows-have}
 use Rattle.standard.proofs.MarkLaws.{mark-stays, mark-all}
-use Rattle.standard.proofs.FirstBlock.{firstForm, FirstIn, ObjectForm, TreeForm, first-block}
+use Rattle.standard.proofs.FirstUpdates.{firstForm, FirstIn, ObjectForm, TreeForm, first-block}
 
 abbrev pub Marked : Row → Type 0
 Marked r = r .mark ≡ settled

@@ -13,7 +13,7 @@ use Rattle.standard.specs.Tables.{rowsOf, stateOf}
 use Rattle.standard.specs.Calls.{Lent, Done, accept, decline, decode}
 use Rattle.standard.specs.Events.{Event, resets, second, run, Beside, lend, Turn, events, secondTurn}
 use Rattle.standard.proofs.Small.{Pairs}
-use Rattle.standard.proofs.Frame.{starts-written, blocks-written, first-written, block-rows-have}
+use Rattle.standard.proofs.ReadBack.{starts-written, blocks-written, first-written, block-rows-have}
 use Rattle.standard.proofs.Marks.{Marked, Settled, starts-marked, blocks-marked, count-settled, noGap, no-gap, no-gap-since, ActiveRow, active-rows-settle}
 use Rattle.standard.proofs.Endings.{Fit, ends}
 use Rattle.standard.proofs.Tabled.{Holds, SecondRoomy, second-run}

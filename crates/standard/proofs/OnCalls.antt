@@ -14,9 +14,9 @@ use Rattle.standard.specs.Calls.{Lent, Done, accept, decline, decode}
 use Rattle.standard.specs.Events.{run, Beside, lend, Turn, events, firstTurn, secondTurn}
 use Rattle.standard.proofs.Small.{Pairs}
 use Rattle.standard.proofs.Agreement.{RowAgree}
-use Rattle.standard.proofs.Blocks.{blocks-pairs}
+use Rattle.standard.proofs.ByBlock.{blocks-pairs}
 use Rattle.standard.proofs.Demand3.{StartAgree, nothing-agrees, Agreement, demand3}
-use Rattle.standard.proofs.Frame.{starts-written, blocks-written, timings-written}
+use Rattle.standard.proofs.ReadBack.{starts-written, blocks-written, timings-written}
 use Rattle.standard.proofs.Tabled.{Enough, Holds, FirstRoomy, SecondRoomy, first-run, second-run, two-calls}
 
 -- Demand 3

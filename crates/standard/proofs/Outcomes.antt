@@ -15,8 +15,8 @@ use Rattle.standard.specs.Meaning.{startRows, retain}
 use Rattle.standard.specs.Tables.{rowsNumbers, timingNumbers, stateOf, stateNumbers}
 use Rattle.standard.specs.Calls.{Lent, Done, over, refusal, accept, decline, decode}
 use Rattle.standard.proofs.Small.{and-left, and-right}
-use Rattle.standard.proofs.Frames.{last-rows-length}
-use Rattle.standard.proofs.Frame.{blockRows, starts-count, blocks-count}
+use Rattle.standard.proofs.RowsOfFrame.{last-rows-length}
+use Rattle.standard.proofs.ReadBack.{blockRows, starts-count, blocks-count}
 use Rattle.standard.proofs.Laid.{over-rest, rows-length, timings-length, state-length}
 use Rattle.standard.proofs.Endings.{Fit, ends}
 

@@ -16,11 +16,11 @@ use Rattle.standard.specs.Meaning.{startRows}
 use Rattle.standard.specs.Tables.{rowsNumbers, stateOf}
 use Rattle.standard.specs.Calls.{Lent, Done, over, accept, decline, decode, rowNumber}
 use Rattle.standard.proofs.Small.{Pairs}
-use Rattle.standard.proofs.Blocks.{all-at}
+use Rattle.standard.proofs.ByBlock.{all-at}
 use Rattle.standard.proofs.Laid.{rows-length, part-back}
 use Rattle.standard.proofs.Forms.{RowOk, ShownOk, row-shown}
-use Rattle.standard.proofs.FrameForms.{StartOk, starts-form, frame-form}
-use Rattle.standard.proofs.Frame.{blockRows, starts-count, blocks-count, block-rows-have}
+use Rattle.standard.proofs.FormKept.{StartOk, starts-form, frame-form}
+use Rattle.standard.proofs.ReadBack.{blockRows, starts-count, blocks-count, block-rows-have}
 use Rattle.standard.proofs.Endings.{Fit, ends}
 use Rattle.standard.proofs.Tabled.{rows-in}
 

@@ -20,9 +20,9 @@ use Rattle.standard.specs.Calls.{Done, over, unchanged, hasRoom, accept,
 use Rattle.standard.specs.Journal.{payload, gapNotice, resetNotice, replyTo}
 use Rattle.standard.specs.Events.{Event, resets, heard, missed, first, second, run, after, firstGets, secondGets, firstCall, secondCall, Beside, lend, Turn, events, firstTurn, secondTurn}
 use Rattle.standard.proofs.Small.{and-left, and-right, both}
-use Rattle.standard.proofs.Frames.{last-rows-length}
+use Rattle.standard.proofs.RowsOfFrame.{last-rows-length}
 use Rattle.standard.proofs.Forms.{RowOk}
-use Rattle.standard.proofs.FrameForms.{last-rows-form, all-form, form-all}
+use Rattle.standard.proofs.FormKept.{last-rows-form, all-form, form-all}
 use Rattle.standard.proofs.Laid.{over-length, over-same, state-back, state-length}
 use Rattle.standard.proofs.Endings.{Fit, fit}
 

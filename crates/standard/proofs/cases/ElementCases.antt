@@ -6,7 +6,7 @@ use lib.IntN.{pos}
 use lib.ListN.{replicate}
 use Rattle.standard.specs.Cases.{Case, allHold}
 use Rattle.standard.specs.Contexts as context
-use Rattle.standard.proofs.Writer.{Bits, _⊳_, bytes, filled, sizeGroups, element, elements, dynamicOnly, blocks, off, offRow, defaultOf, shows, fails, far, written}
+use Rattle.standard.proofs.cases.Writer.{Bits, _⊳_, bytes, filled, sizeGroups, element, elements, dynamicOnly, blocks, off, offRow, defaultOf, shows, fails, far, written}
 
 -- One Dynamic object. Without a longer element count the first element's id stands at bit 14, its size at 18, its content at 23
 

@@ -12,8 +12,8 @@ use Rattle.standard.specs.Meaning.{startRows, objectRows, allRows, gainO
 use Rattle.standard.specs.Tables.{rowsNumbers, rowsOf, inBlock, byBlock, timingsOf}
 use Rattle.standard.specs.Calls.{Lent, over, accept}
 use Rattle.standard.proofs.Starts.{start-length}
-use Rattle.standard.proofs.Frames.{object-rows-length, frame-rows-length}
-use Rattle.standard.proofs.Blocks.{blocks-length, blocks-all}
+use Rattle.standard.proofs.RowsOfFrame.{object-rows-length, frame-rows-length}
+use Rattle.standard.proofs.ByBlock.{blocks-length, blocks-all}
 use Rattle.standard.proofs.Laid.{rows-back, rows-append, timings-back}
 use Rattle.standard.proofs.Counts.{Sized}
 

@@ -3,7 +3,7 @@ use Prim.Native.Nat.{ℕ, _+_, _*_, _-_}
 use mathlib.Core.Path.{_≡_, refl}
 use mathlib.Core.Bool.{Bool, true, false, not, _&&_, false≢true}
 use mathlib.Core.List.{List, [], _∷_, _++_}
-use lib.Dec.{T, leb}
+use lib.Dec.{T}
 use lib.IntN.{ℤ, pos}
 use lib.ListN.{length, take, replicate, set}
 use Rattle.bits.proofs.Always.{All}
@@ -13,28 +13,12 @@ use Rattle.standard.specs.Contexts as context
 use Rattle.standard.specs.Tree.{Kind, lfe, bed, isf, dynamic, kindCode}
 use Rattle.standard.specs.Rows.{Row}
 use Rattle.standard.specs.Tables.{rowNumbers, rowsNumbers, inForm}
-use Rattle.standard.specs.Calls.{Lent, over, unchanged, hasRoom, decode, timingCall}
+use Rattle.standard.specs.Calls.{Lent, over, hasRoom, decode, timingCall}
 use Rattle.standard.specs.Journal.{freshTables}
 use Rattle.standard.specs.Cases.{plainRow, refuses, refusedTables, acceptedTables, allHold}
 use Rattle.standard.proofs.Small.{and-left, and-right}
-use Rattle.standard.proofs.Writer.{_⊳_, said, block, timed, unity, place, first, restOne, neg, row, onRow, offRow, defaultOf, inactiveOf, far, written}
-
--- Room, form and size (5, 6, 7) come in this order and before the payload, and what they refuse changes nothing
-
-abbrev pub Untouched : ℕ → List ℕ → Lent → Type 0
-Untouched n s l = decode s l ≡ unchanged l n
-
-pub without-room : (s : List ℕ) (l : Lent) → hasRoom l ≡ false → Untouched number.room s l
-unfolding decode
-without-room s l h = rw h
-
-pub out-of-form : (s : List ℕ) (l : Lent) → hasRoom l ≡ true → inForm (l .retained) ≡ false → Untouched number.form s l
-unfolding decode
-out-of-form s l h k = rw (h, k)
-
-pub too-long : (s : List ℕ) (l : Lent) → hasRoom l ≡ true → inForm (l .retained) ≡ true → leb (length s) payloadLimit ≡ false → Untouched number.size s l
-unfolding decode
-too-long s l h k n = rw (h, k, n)
+use Rattle.standard.proofs.Refusals.{Untouched, without-room, out-of-form, too-long}
+use Rattle.standard.proofs.cases.Writer.{_⊳_, said, block, timed, unity, place, first, restOne, neg, row, onRow, offRow, defaultOf, inactiveOf, far, written}
 
 -- 5: each table short by one number, whatever the payload
 

@@ -21,7 +21,7 @@ use Rattle.standard.proofs.MarkLaws.{none-differs}
 use Rattle.standard.proofs.MarksOnCalls.{FrameSettled}
 use Rattle.standard.proofs.Threaded.{no-gap-threaded}
 use Rattle.standard.proofs.FromZeros.{Lengths, zeros-begin}
-use Rattle.standard.proofs.Writer.{_⊳_, bytes, dynamicOnly, said, block, timed, blocks, off, unity, place, first, restOne, movedOne, written}
+use Rattle.standard.proofs.cases.Writer.{_⊳_, bytes, dynamicOnly, said, block, timed, blocks, off, unity, place, first, restOne, movedOne, written}
 
 abbrev pub Decoder : Type 0
 Decoder = List ℕ → Lent → Done

@@ -14,9 +14,9 @@ use Rattle.standard.specs.Rows.{Row, State, noRow}
 use Rattle.standard.specs.Meaning.{frameRows, lastRow, lastRows, retain}
 use Rattle.standard.specs.Tables.{rowsNumbers, rowsOf, inBlock, byBlock, stateOf, stateNumbers}
 use Rattle.standard.specs.Calls.{Lent, Done, over, accept, decline, decode}
-use Rattle.standard.proofs.Blocks.{blocks-length}
-use Rattle.standard.proofs.Frames.{frame-rows-length, last-rows-length}
-use Rattle.standard.proofs.Frame.{frame-full}
+use Rattle.standard.proofs.ByBlock.{blocks-length}
+use Rattle.standard.proofs.RowsOfFrame.{frame-rows-length, last-rows-length}
+use Rattle.standard.proofs.ReadBack.{frame-full}
 use Rattle.standard.proofs.Laid.{rows-back, rows-length, rows-append}
 use Rattle.standard.proofs.Counts.{Sized}
 use Rattle.standard.proofs.Endings.{ends}

@@ -8,7 +8,7 @@ use Rattle.standard.specs.Rows.{Row}
 use Rattle.standard.specs.Journal.{payload}
 use Rattle.standard.specs.Contexts as context
 use Rattle.standard.specs.Cases.{Case, allHold}
-use Rattle.standard.proofs.Writer.{Bits, _⊳_, said, blocks, off, on, kept, unity, silent, level, copied, usual, priority, spot, place, to, moved, free, locked, plain, rich, groups, first, restOne, neg, row, onRow, offRow, richRow, defaultOf, shows, fails, far, written}
+use Rattle.standard.proofs.cases.Writer.{Bits, _⊳_, said, blocks, off, on, kept, unity, silent, level, copied, usual, priority, spot, place, to, moved, free, locked, plain, rich, groups, first, restOne, neg, row, onRow, offRow, richRow, defaultOf, shows, fails, far, written}
 
 -- n new objects in b blocks: what is said of them, and their rows
 unfoldable pub become : ℕ → ℕ → Bits → List Row → Case

@@ -114,3 +114,9 @@ assignment count = do
     kinds ← contents
     require (eqb (length kinds) count) (invalid context.program-assignment-object-count at)
     pure kinds
+
+-- What computing opens
+
+unfoldable pub computed : Unit {0}
+unfolding extended version objectCount onlyDynamic chosen standardBeds nonstandardBeds oneBed joined beds isfCounts isfs dynamics skipBytes contents assignment
+computed = tt

@@ -166,3 +166,9 @@ benchCases =
     ∷ refuses [] (0x01 ∷ 0x04 ∷ 0x48 ∷ 0x00 ∷ 0x04 ∷ 0x00 ∷ []) 1 63 47
     ∷ refuses [] (0x01 ∷ 0x04 ∷ 0x48 ∷ 0x00 ∷ 0x02 ∷ 0x00 ∷ []) 2 46 38
     ∷ []
+
+-- What computing opens
+
+unfoldable pub computed : Unit {0}
+unfolding same eqℤ sameℤ lentTables refusedTables acceptedTables answerNumbers comesTo toTheEnd isCount holds allHold benchCases
+computed = tt

@@ -81,3 +81,9 @@ firstTurn l t = firstCall (lend (t .one) l) (t .event) .retained
 
 unfoldable pub secondTurn : List ℤ → Turn → List ℤ
 secondTurn l t = secondCall (lend (t .two) l) (t .event) .retained
+
+-- What computing opens
+
+unfoldable pub computed : Unit {0}
+unfolding first second run after firstGets secondGets firstCall secondCall firstTurn secondTurn
+computed = tt

@@ -85,3 +85,9 @@ is n (negsuc m) = false
 abbrev pub isSilent : ℤ → Bool
 isSilent (pos m) = false
 isSilent (negsuc m) = eqb m 127
+
+-- What computing opens
+
+unfoldable pub computed : Unit {0}
+unfolding fresh defaultPicture
+computed = tt

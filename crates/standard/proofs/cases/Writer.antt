@@ -11,7 +11,8 @@ use Rattle.standard.specs.Tree.{dynamic, kindNumber}
 use Rattle.standard.specs.Rows.{Row}
 use Rattle.standard.specs.Computed.{computed}
 use Rattle.standard.specs.Journal.{Record, resetNotice}
-use Rattle.standard.specs.Cases.{plainRow, inactiveRow, Case, refuses, accepts, headOfA, same, eqℤ, sameℤ, lentTables, refusedTables, acceptedTables, answerNumbers, comesTo, isCount, holds, allHold}
+use Rattle.standard.specs.Cases.{plainRow, inactiveRow, Case, refuses, accepts, headOfA}
+use Rattle.standard.specs.Cases as cases
 
 -- Bits and bytes
 
@@ -223,7 +224,7 @@ farther = 33 * rowWidth
 
 -- Everything opened, for the tables of cases: `unfolding written`
 unfoldable pub written : Unit {0}
-unfolding computed same eqℤ sameℤ lentTables refusedTables acceptedTables answerNumbers comesTo isCount holds allHold flatten _⊳_ bytesFrom bytes filled sizeGroups element elements dynamicOnly said saidWithLfe block timed blocks off on kept unity silent level copied usual priority spot place to moved free locked plain rich groups first gives shows fails
+unfolding computed cases.computed flatten _⊳_ bytesFrom bytes filled sizeGroups element elements dynamicOnly said saidWithLfe block timed blocks off on kept unity silent level copied usual priority spot place to moved free locked plain rich groups first gives shows fails
 written = tt
 
 -- at rest it is document 01's A

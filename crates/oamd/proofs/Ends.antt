@@ -22,8 +22,8 @@ use Rattle.standard.specs.Syntax.{syntax}
 use Rattle.standard.specs.Tables.{rowsNumbers, rowsOf, byBlock, stateOf, inForm}
 use Rattle.standard.specs.Calls.{Lent, over, hasRoom, unchanged, accept, decline, settle, decode}
 use Rattle.standard.proofs.Small.{and-left, and-right}
-use Rattle.standard.proofs.Frames.{object-rows-length, frame-rows-length, last-rows-length}
-use Rattle.standard.proofs.LastBlock.{last-numbers}
+use Rattle.standard.proofs.RowsOfFrame.{object-rows-length, frame-rows-length, last-rows-length}
+use Rattle.standard.proofs.Retention.{last-numbers}
 use Rattle.standard.proofs.Counts.{Sized}
 use Rattle.rows.proofs.Written.{over-same}
 use Rattle.rows.proofs.Rows.{rows-back}

@@ -17,7 +17,7 @@ use Rattle.standard.specs.Updates.{update, object}
 use Rattle.standard.specs.Rows.{Row}
 use Rattle.standard.specs.Meaning.{updated, objectRows, allRows, gainOf}
 use Rattle.standard.specs.Tables.{rowsOf}
-use Rattle.standard.proofs.Frames.{object-rows-length}
+use Rattle.standard.proofs.RowsOfFrame.{object-rows-length}
 use Rattle.standard.proofs.Counts.{object-kind, object-length}
 use Rattle.rows.specs.Places.{rowAt, put}
 use Rattle.objects.specs.Walk.{place, gainBefore, columnFrom, objectsFrom}

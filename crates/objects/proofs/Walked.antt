@@ -17,7 +17,7 @@ use Rattle.standard.specs.Meaning.{updated, objectRows, allRows, gainOf}
 use Rattle.standard.specs.Tables.{rowsNumbers, rowsOf, byBlock}
 use Rattle.standard.specs.Calls.{over}
 use Rattle.standard.proofs.Counts.{object-length}
-use Rattle.standard.proofs.Frames.{object-rows-length, all-rows-length}
+use Rattle.standard.proofs.RowsOfFrame.{object-rows-length, all-rows-length}
 use Rattle.objects.specs.Walk.{gainBefore, objectsFrom}
 use Rattle.objects.proofs.Columns.{gainsFrom}
 use Rattle.objects.proofs.Bridge.{all-columns}

@@ -13,7 +13,7 @@ use Rattle.standard.specs.Marks.{isSome, isAbsolute, absolutelySaid, set
 use Rattle.standard.specs.Meaning.{orBefore, newGain, positionSaid, newPosition, newPicture, rowPicture, updated, objectRows, allRows, gainOf}
 use Rattle.standard.proofs.Small.{and-left, and-right, Pairs}
 use Rattle.standard.proofs.MarkLaws.{mark-sound}
-use Rattle.standard.proofs.FirstBlock.{firstForm, FirstIn, ObjectForm}
+use Rattle.standard.proofs.FirstUpdates.{firstForm, FirstIn, ObjectForm}
 
 -- A settling word forgets the group before
 

@@ -1,7 +1,7 @@
--- A refusal has one of the numbers 1 to 4, and stands within the payload.
+-- A refusal has one of the numbers 1 to 4 and one of the contexts 1 to 86, and stands within the payload.
 use Prim.Native.Nat.{ℕ, zero, suc, _+_, _*_, _-_, _^_, _≤_}
 use mathlib.Core.Path.{_≡_, refl}
-use mathlib.Core.Bool.{Bool, true, false, cond}
+use mathlib.Core.Bool.{Bool, true, false, cond, _&&_}
 use mathlib.Core.List.{List, [], _∷_}
 use mathlib.Core.Option.{Option, none, some}
 use native.Mathlib.Omega.{arith}
@@ -17,9 +17,14 @@ use Rattle.standard.specs.Assignment.{version, objectCount, onlyDynamic,
 use Rattle.standard.specs.Updates.{gainWord, priorityWord, basic, differential, absolutely, distance, positionWord, zoneWord, sizeWord, screenWord, groups, render, status, activeUpdate, tableData, update, object}
 use Rattle.standard.specs.Syntax.{sampleOffset, ramp, timing, reserved, objectElement, trim, elementCount, elementSize, alternate, once, content, element, elements, present, body, payload, syntax}
 
+-- a context of the list
+abbrev pub Listed : ℕ → Type 0
+Listed c = (leb 1 c && leb c context.contextCount) ≡ true
+
 pub record Bounded (e : ℕ) (r : Refusal) : Type 0 where
   pub above : 1 ≤ r .number
   pub below : r .number ≤ 4
+  pub context : Listed (r .context)
   pub place : r .place ≤ e
 
 -- from a place up to the end e, a reading goes on and stays within, and so does its refusal
@@ -121,45 +126,45 @@ module _ {e : ℕ} where
 
   -- The refusals, and the reads
 
-  a-fault : {c p : ℕ} → p ≤ e → Bounded e (invalid c p)
-  a-fault l = record { above = omega arith; below = omega arith; place = l }
+  a-fault : {c p : ℕ} → Listed c → p ≤ e → Bounded e (invalid c p)
+  a-fault k l = record { above = omega arith; below = omega arith; context = k; place = l }
 
-  a-limit : {c p : ℕ} → p ≤ e → Bounded e (limit c p)
-  a-limit l = record { above = omega arith; below = omega arith; place = l }
+  a-limit : {c p : ℕ} → Listed c → p ≤ e → Bounded e (limit c p)
+  a-limit k l = record { above = omega arith; below = omega arith; context = k; place = l }
 
-  a-stranger : {c p : ℕ} → p ≤ e → Bounded e (unsupported c p)
-  a-stranger l = record { above = omega arith; below = omega arith; place = l }
+  a-stranger : {c p : ℕ} → Listed c → p ≤ e → Bounded e (unsupported c p)
+  a-stranger k l = record { above = omega arith; below = omega arith; context = k; place = l }
 
-  a-cut : (c p w n : ℕ) → p ≤ e → Bounded e (truncated c p w n)
-  a-cut c p w n l = record { above = omega arith; below = omega arith; place = l }
+  a-cut : (c p w n : ℕ) → Listed c → p ≤ e → Bounded e (truncated c p w n)
+  a-cut c p w n k l = record { above = omega arith; below = omega arith; context = k; place = l }
 
-  run-fine : {A : Type 0} (a : A) (c p w : ℕ) → p ≤ e → Fine e p (cond (leb (p + w) e) (got a (p + w)) (refused (truncated c p w (e - p))))
-  run-fine a c p w l = go (leb (p + w) e) refl
+  run-fine : {A : Type 0} (a : A) (c p w : ℕ) → Listed c → p ≤ e → Fine e p (cond (leb (p + w) e) (got a (p + w)) (refused (truncated c p w (e - p))))
+  run-fine a c p w x l = go (leb (p + w) e) refl
     where
       go : (b : Bool) → leb (p + w) e ≡ b → Fine e p (cond b (got a (p + w)) (refused (truncated c p w (e - p))))
       go true h = let k = leb-true _ _ h in (omega arith, k)
-      go false h = a-cut c p w (e - p) l
+      go false h = a-cut c p w (e - p) x l
 
-  field : (w c : ℕ) → Stays e (read w c)
+  field : (w c : ℕ) → Listed c → Stays e (read w c)
   unfolding read
-  field w c = record { stays = λ s p l. run-fine _ c p w l }
+  field w c k = record { stays = λ s p l. run-fine _ c p w k l }
 
-  run : (w c : ℕ) → Stays e (skip w c)
+  run : (w c : ℕ) → Listed c → Stays e (skip w c)
   unfolding skip
-  run w c = record { stays = λ s p l. run-fine tt c p w l }
+  run w c k = record { stays = λ s p l. run-fine tt c p w k l }
 
-  a-flag : (c : ℕ) → Stays e (flag c)
+  a-flag : (c : ℕ) → Listed c → Stays e (flag c)
   unfolding flag
-  a-flag c = mapped _ (field 1 c)
+  a-flag c k = mapped _ (field 1 c k)
 
-  a-sign : (w c : ℕ) → Stays e (readSigned w c)
+  a-sign : (w c : ℕ) → Listed c → Stays e (readSigned w c)
   unfolding readSigned
-  a-sign w c = mapped _ (field w c)
+  a-sign w c k = mapped _ (field w c k)
 
-  zeros-fine : (c n : ℕ) (s : List ℕ) (p : ℕ) → p + n ≤ e → Fine e p (zeros c n s e p)
+  zeros-fine : (c n : ℕ) → Listed c → (s : List ℕ) (p : ℕ) → p + n ≤ e → Fine e p (zeros c n s e p)
   unfolding zeros pure
-  zeros-fine c zero s p l = (omega arith, omega arith)
-  zeros-fine c (suc n) s p l = go (eqb (bitAt s p) 0) (zeros-fine c n s (p + 1) (omega arith))
+  zeros-fine c zero x s p l = (omega arith, omega arith)
+  zeros-fine c (suc n) x s p l = go (eqb (bitAt s p) 0) (zeros-fine c n x s (p + 1) (omega arith))
     where
       go : (b : Bool) → Fine e (p + 1) (zeros c n s e (p + 1)) → Fine {A = Unit {0}} e p (elim b [ true ↦ zeros c n s e (p + 1) | false ↦ refused (invalid c p) ])
       go true h = back (zeros c n s e (p + 1)) h
@@ -167,33 +172,38 @@ module _ {e : ℕ} where
           back : (x : Parsed (Unit {0})) → Fine e (p + 1) x → Fine e p x
           back (got a q) k = (omega arith, k .1)
           back (refused r) k = k
-      go false h = a-fault (omega arith)
+      go false h = a-fault x (omega arith)
 
-  rest : (c : ℕ) → Stays e (padding c)
+  rest : (c : ℕ) → Listed c → Stays e (padding c)
   unfolding padding
-  rest c = record { stays = λ s p l. zeros-fine c (e - p) s p (omega arith) }
+  rest c k = record { stays = λ s p l. zeros-fine c (e - p) k s p (omega arith) }
 
-ruleset staying = (bind, next, mapped, from-here, to-end, choose, given, refusing, recast, placing, asked, repeated, at-each, required, a-fault, a-limit, a-stranger, a-cut, field, run, a-flag, a-sign, rest)
+-- a context by its name stands in the list
+named : true ≡ true
+named = refl
+
+ruleset staying = (bind, next, mapped, from-here, to-end, choose, given, refusing, recast, placing, asked, repeated, at-each, required, a-fault, a-limit, a-stranger, a-cut, field, run, a-flag, a-sign, rest, named)
 
 module _ {e : ℕ} where
-  later : (w c f n v : ℕ) → f ≤ e → Stays e (laterGroups w c f n v)
+  later : (w c f n v : ℕ) → Listed c → f ≤ e → Stays e (laterGroups w c f n v)
   unfolding laterGroups
-  later w c f zero v l = bind (a-flag c) λ more. choose more (refusing (a-limit l)) (given v)
-  later w c f (suc n) v l = bind (a-flag c) λ more. choose more (bind (recast (a-limit l) (field w c)) λ x. later w c f n (v * 2 ^ w + 2 ^ w + x) l) (given v)
+  later w c f zero v k l = bind (a-flag c k) λ more. choose more (refusing (a-limit k l)) (given v)
+  later w c f (suc n) v k l =
+      bind (a-flag c k) λ more. choose more (bind (recast (a-limit k l) (field w c k)) λ x. later w c f n (v * 2 ^ w + 2 ^ w + x) k l) (given v)
 
-  variable : (w n c : ℕ) → Stays e (variableBits w n c)
+  variable : (w n c : ℕ) → Listed c → Stays e (variableBits w n c)
   unfolding variableBits
-  variable w n c = from-here λ at l. bind (field w c) λ v. later w c at n v l
+  variable w n c k = from-here λ at l. bind (field w c k) λ v. later w c at n v k l
 
   -- The grammar
 
-  extension : (w c l w′ c′ : ℕ) → Stays e (extended w c l w′ c′)
+  extension : (w c l w′ c′ : ℕ) → Listed c → Listed c′ → Stays e (extended w c l w′ c′)
   unfolding extended
-  extension w c l w′ c′ = search staying depth 12
+  extension w c l w′ c′ h k = search staying depth 12
 
-  bytes : (c c′ : ℕ) → Stays e (skipBytes c c′)
+  bytes : (c c′ : ℕ) → Listed c → Listed c′ → Stays e (skipBytes c c′)
   unfolding skipBytes
-  bytes c c′ = search staying depth 12
+  bytes c c′ h k = search staying depth 12
 
   kinds : (n : ℕ) → Stays e (assignment n)
   unfolding assignment onlyDynamic contents beds oneBed isfs dynamics
@@ -230,31 +240,31 @@ module _ {e : ℕ} where
   first-one : (at : ℕ) (o : Option Tree) (ks : List Kind) → at ≤ e → Stays e (once at o (objectElement ks))
   unfolding once
   first-one at none ks l = mapped some (objects ks)
-  first-one at (some t) ks l = refusing (a-fault l)
+  first-one at (some t) ks l = refusing (a-fault refl l)
 
   -- the id of an element stands before its end
   inside : (alternated : Bool) (ks : List Kind) (at id : ℕ) (o : Option Tree) → at ≤ e → Stays e (Inside alternated ks at id o)
   unfolding alternate content
   inside alternated ks at id o l =
       next (search staying depth 12)
-      (next (a-flag _)
-      (choose (eqb id 1) (bind (first-one at o ks l) λ t. next (rest _) (given t)) (choose (eqb id 2) (next (trimming _) (next (rest _) (given o))) (given o))))
+      (next (a-flag _ refl)
+      (choose (eqb id 1) (bind (first-one at o ks l) λ t. next (rest _ refl) (given t)) (choose (eqb id 2) (next (trimming _) (next (rest _ refl) (given o))) (given o))))
 
 -- an element's end lies within the payload
 closed : {A : Type 0} (e e′ p : ℕ) (x : Parsed A) → p ≤ e′ → e′ ≤ e → Fine e′ p x → Fine e p (andThen x (λ a q. got a e′))
 closed e e′ p (got a q) l m h = (l, m)
-closed e e′ p (refused r) l m h = record { above = h .above; below = h .below; place = let k = h .place in omega arith }
+closed e e′ p (refused r) l m h = record { above = h .above; below = h .below; context = h .context; place = let k = h .place in omega arith }
 
 module _ {e : ℕ} where
   size : Stays e elementSize
   unfolding elementSize
-  size = mapped _ (variable 4 3 _)
+  size = mapped _ (variable 4 3 _ refl)
 
   an-element : (alternated : Bool) (ks : List Kind) (o : Option Tree) → Stays e (element alternated ks o)
   unfolding element _>>=_ _>>_ here theEnd require pure refuse within goTo
   an-element alternated ks o = record {
     stays = λ s p l.
-        then-fine p (read 4 context.element-id s e p) _ (field 4 context.element-id .stays s p l) (λ id q i j.
+        then-fine p (read 4 context.element-id s e p) _ (field 4 context.element-id refl .stays s p l) (λ id q i j.
         then-fine q (elementSize s e q) _ (size .stays s q j) (λ n q′ i′ j′.
         ends s p id n q′ (omega arith) j′ (leb (q′ + n * 8) e) refl));
   }
@@ -264,7 +274,7 @@ module _ {e : ℕ} where
       ends s at id n p l m true h =
           let k = leb-true _ _ h in
           closed e (p + n * 8) p (Inside alternated ks at id o s (p + n * 8) p) (omega arith) k (inside {e = p + n * 8} alternated ks at id o (omega arith) .stays s p (omega arith))
-      ends s at id n p l m false h = a-cut context.element p (n * 8) (e - p) m
+      ends s at id n p l m false h = a-cut context.element p (n * 8) (e - p) refl m
 
   all-elements : (n : ℕ) (alternated : Bool) (ks : List Kind) (o : Option Tree) → Stays e (elements n alternated ks o)
   unfolding elements
@@ -273,14 +283,14 @@ module _ {e : ℕ} where
 
   at-last : (o : Option Tree) → Stays e (present o)
   unfolding present
-  at-last none = to-end _ (refusing (a-fault (omega arith)))
+  at-last none = to-end _ (refusing (a-fault refl (omega arith)))
   at-last (some t) = given t
 
   whole : Stays e payload
   unfolding payload version objectCount body elementCount
   whole = search (staying, extension, kinds, all-elements, at-last) depth 20 fits 4000
 
--- A payload that is refused is refused by a number from 1 to 4, at a place within it.
+-- A payload that is refused is refused by a number from 1 to 4 and a context from 1 to 86, at a place within it.
 pub bounded : (s : List ℕ) {r : Refusal} → syntax s ≡ refused r → Bounded (length s * 8) r
 unfolding syntax
 bounded s {r} e = rw e at (whole {e = length s * 8} .stays s 0 (omega arith))

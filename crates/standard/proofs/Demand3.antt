@@ -14,28 +14,28 @@ use Rattle.standard.specs.Meaning.{defaultRow, heldRow, sameKinds, start
 use Rattle.standard.specs.Events.{Event, resets, heard, missed, first, second, run}
 use Rattle.standard.proofs.Small.{number-is, Pairs}
 use Rattle.standard.proofs.Starts.{start-each}
-use Rattle.standard.proofs.Frames.{last-rows-have}
+use Rattle.standard.proofs.RowsOfFrame.{last-rows-have}
 use Rattle.standard.proofs.MarkLaws.{mark-none, none-differs}
-use Rattle.standard.proofs.FirstBlock.{TreeForm, first-block}
+use Rattle.standard.proofs.FirstUpdates.{TreeForm, first-block}
 use Rattle.standard.proofs.Agreement.{Same, Settled, Starts, RowAgree, frames-agree}
 
 -- Fixed kinds keep the default picture
 
 abbrev pub Fixed : Row → Type 0
-Fixed r = is 3 (r .kind) ≡ false → r .picture ≡ defaultPicture
+Fixed r = is (kindCode dynamic) (r .kind) ≡ false → r .picture ≡ defaultPicture
 
 -- of a row of kind k
 pub record FixedAt (k : Kind) (r : Row) : Type 0 where
   pub kind : r .kind ≡ pos (kindCode k)
   pub picture : isDynamic k ≡ false → r .picture ≡ defaultPicture
 
-code-fixed : (k : Kind) → isDynamic k ≡ false → is 3 (pos (kindCode k)) ≡ false
+code-fixed : (k : Kind) → isDynamic k ≡ false → is (kindCode dynamic) (pos (kindCode k)) ≡ false
 code-fixed lfe h = refl
 code-fixed bed h = refl
 code-fixed isf h = refl
 code-fixed dynamic h = cc
 
-fixed-code : (k : Kind) → is 3 (pos (kindCode k)) ≡ false → isDynamic k ≡ false
+fixed-code : (k : Kind) → is (kindCode dynamic) (pos (kindCode k)) ≡ false → isDynamic k ≡ false
 fixed-code lfe h = refl
 fixed-code bed h = refl
 fixed-code isf h = refl
@@ -45,7 +45,7 @@ start-fixed : (st : State) (ks : List Kind) → All Fixed (st .rows) → Pairs F
 unfolding defaultRow heldRow
 start-fixed st ks =
     start-each Fixed FixedAt st ks (λ k. record { kind = refl; picture = λ h. refl })
-    (λ k r e f. let c = number-is (kindCode k) (r .kind) e in record { kind = c; picture = λ h. f (ap (is 3) c ∙ code-fixed k h) })
+    (λ k r e f. let c = number-is (kindCode k) (r .kind) e in record { kind = c; picture = λ h. f (ap (is (kindCode dynamic)) c ∙ code-fixed k h) })
 
 -- Start rows
 
@@ -152,7 +152,7 @@ update-fixed k g (inactive at) r h = record { kind = refl; picture = h .picture 
 update-fixed k g (active b n) r h = record { kind = refl; picture = λ e. rw e (h .picture e) }
 
 row-fixed : (k : Kind) (r : Row) → FixedAt k r → Fixed r
-row-fixed k r h e = h .picture (fixed-code k (ap (is 3) (sym (h .kind)) ∙ e))
+row-fixed k r h e = h .picture (fixed-code k (ap (is (kindCode dynamic)) (sym (h .kind)) ∙ e))
 
 rows-fixed : (k : Kind) (us : List Update) (gs : List ℤ) (r : Row) → FixedAt k r → All Fixed (objectRows k r us gs)
 unfolding objectRows

@@ -4,12 +4,12 @@ use mathlib.Core.Bool.{Bool, true, false, cond, not, _||_, false≢true}
 use mathlib.Core.List.{List, [], _∷_}
 use mathlib.Core.Option.{Option, none, some}
 use lib.Dec.{T}
-use lib.IntN.{ℤ, pos, negsuc}
+use lib.IntN.{ℤ, pos, negℤ}
 use lib.Signed.{leZ, ltZ, ltZ-no, ≤ℤ-refl}
 use Rattle.bits.specs.Parsed.{Placed}
 use Rattle.bits.proofs.Always.{All}
-use Rattle.standard.specs.Tree.{Kind, lfe, bed, isf, dynamic, kindCode, isDynamic, Position, GainWord, level, copied, PositionWord, absolute, moved, Render, default, kept, given, Update, inactive, active}
-use Rattle.standard.specs.Numbers.{silence}
+use Rattle.standard.specs.Tree.{Kind, lfe, bed, isf, dynamic, kindCode, kindNumber, isDynamic, Position, GainWord, level, copied, PositionWord, absolute, moved, Render, default, kept, given, Update, inactive, active}
+use Rattle.standard.specs.Numbers.{sideLimit, heightLimit, priorityLimit, silence}
 use Rattle.standard.specs.Rows.{Row, Picture, defaultPicture, is, isSilent}
 use Rattle.standard.specs.Marks.{rowMark}
 use Rattle.standard.specs.Meaning.{orBefore, copiedGain, gainSaid, newGain, clamp, stepped, positionSaid, newPosition, newPicture, rowPicture, updated}
@@ -84,7 +84,7 @@ position-said : (w : PositionWord) (p : Position) → PositionOk w → positionF
 unfolding positionSaid stepped positionForm positionTests
 position-said (absolute q) p h k = h
 position-said (moved d) p h k =
-    passed (positionTests (stepped d p)) (clamp-form (pos 0) (pos 62) _ refl, (clamp-form (pos 0) (pos 62) _ refl, (clamp-form (negsuc 14) (pos 15) _ refl, tt)))
+    passed (positionTests (stepped d p)) (clamp-form (pos 0) (pos sideLimit) _ refl, (clamp-form (pos 0) (pos sideLimit) _ refl, (clamp-form (negℤ (pos heightLimit)) (pos heightLimit) _ refl, tt)))
 
 position-after : (o : Option (Placed PositionWord)) (p : Position) → IfSaid PositionOk o → positionForm p ≡ true → positionForm (newPosition o p) ≡ true
 unfolding newPosition
@@ -119,27 +119,27 @@ row-picture k r p h f = go (isDynamic k)
 
 -- Kinds
 
-pub code-form : (k : Kind) → between (pos 0) (pos 3) (pos (kindCode k)) ≡ true
+pub code-form : (k : Kind) → between (pos 0) (kindNumber dynamic) (pos (kindCode k)) ≡ true
 code-form lfe = refl
 code-form bed = refl
 code-form isf = refl
 code-form dynamic = refl
 
-fixed-picture : (k : Kind) (r : Render) (p : Picture) → (is 3 (pos (kindCode k)) || isDefault p) ≡ true → (is 3 (pos (kindCode k)) || isDefault (rowPicture k r p)) ≡ true
+fixed-picture : (k : Kind) (r : Render) (p : Picture) → (is (kindCode dynamic) (pos (kindCode k)) || isDefault p) ≡ true → (is (kindCode dynamic) (pos (kindCode k)) || isDefault (rowPicture k r p)) ≡ true
 unfolding rowPicture
 fixed-picture lfe r p h = h
 fixed-picture bed r p h = h
 fixed-picture isf r p h = h
 fixed-picture dynamic r p h = refl
 
-fixed-mark : (k : Kind) (r : Render) (m : ℤ) → (is 3 (pos (kindCode k)) || isFull (rowMark k r m)) ≡ true
+fixed-mark : (k : Kind) (r : Render) (m : ℤ) → (is (kindCode dynamic) (pos (kindCode k)) || isFull (rowMark k r m)) ≡ true
 unfolding rowMark
 fixed-mark lfe r m = refl
 fixed-mark bed r m = refl
 fixed-mark isf r m = refl
 fixed-mark dynamic r m = refl
 
-pub default-fixed : (k : Kind) → (is 3 (pos (kindCode k)) || isDefault defaultPicture) ≡ true
+pub default-fixed : (k : Kind) → (is (kindCode dynamic) (pos (kindCode k)) || isDefault defaultPicture) ≡ true
 unfolding isDefault defaultPicture
 default-fixed lfe = refl
 default-fixed bed = refl
@@ -156,10 +156,10 @@ ShownOk r = shownForm r ≡ true
 
 -- what a row to be shown has, by name
 pub record Facts (r : Row) : Type 0 where
-  pub kind : between (pos 0) (pos 3) (r .kind) ≡ true
+  pub kind : between (pos 0) (kindNumber dynamic) (r .kind) ≡ true
   pub active : isFlag (r .active) ≡ true
   pub gain : gainForm (r .gain) ≡ true
-  pub priority : between (pos 0) (pos 32) (r .priority) ≡ true
+  pub priority : between (pos 0) (pos priorityLimit) (r .priority) ≡ true
   pub picture : pictureForm (r .picture) ≡ true
   pub mark : markForm (r .mark) ≡ true
   pub silent : activeForm r ≡ true

@@ -10,7 +10,7 @@ use lib.ListN.{length, take, drop, length-append, length-drop}
 use lib.Seq.{take-append-le, drop-append-le}
 use Rattle.standard.specs.Journal.{Record, payload, gapNotice, resetNotice, Step, whole, more, unknown, payloadStep, step, badMark, Journal, ended, entered, rest, journalFrom, journal}
 use Rattle.standard.specs.JournalParts.{Reader, waiting, stopped, Taken, takeFrom, arrive, endOf, readOn, journalOfParts}
-use Rattle.standard.proofs.JournalCases.{step-sized, turns-suffice}
+use Rattle.standard.proofs.JournalTurns.{step-sized, turns-suffice}
 
 -- A step that asks for no more bytes stays as it is when more arrive
 

@@ -1,14 +1,12 @@
 -- The laws of marks. What a mark is, the other proofs know by these alone.
-use Prim.Native.Nat.{ℕ}
 use mathlib.Core.Path.{_≡_, refl}
 use mathlib.Core.Bool.{Bool, true, false, cond, _&&_, _||_}
-use native.Mathlib.Omega.{arith}
 use lib.IntN.{ℤ}
 use Rattle.standard.specs.Tree.{Kind, isDynamic, Render}
 use Rattle.standard.specs.Rows.{Group, itsPosition, itsZone, itsSize, itsScreen, itsLock, is}
 use Rattle.standard.specs.Marks.{settled, unsettled, marked, doubted, settles, settlesAll, newMark, rowMark}
 use Rattle.standard.specs.Tables.{markForm}
-use Rattle.standard.proofs.Small.{and-left, and-right}
+use Rattle.standard.proofs.Small.{and-left, and-right, nought-differs}
 
 pub settles-each : (r : Render) → settlesAll r ≡ true → (g : Group) → settles g r ≡ true
 unfolding settlesAll
@@ -47,7 +45,7 @@ unfolding marked
 mark-none g = refl
 
 pub none-differs : unsettled ≡ settled → ⊥
-none-differs e = let z : _≡_ {A = ℕ} 0 1 = cc in omega arith
+none-differs e = nought-differs e
 
 pub mark-stays : (r : Render) → newMark r settled ≡ settled
 unfolding newMark

@@ -6,16 +6,17 @@ use lib.IntN.{ℤ, pos}
 use lib.ListN.{getD, drop}
 use Rattle.bits.specs.Parsed.{Parsed, got, refused}
 use Rattle.bits.proofs.Always.{Ok, All}
-use Rattle.standard.specs.Tree.{Kind, isDynamic, Render, kept, Update, inactive, active, Object, Tree, kindsOf}
+use Rattle.standard.specs.Tree.{Kind, lfe, bed, isf, dynamic, kindNumber, isDynamic, Render, kept, Update, inactive, active, Object, Tree, kindsOf}
 use Rattle.standard.specs.Rows.{Row, State, fresh, noRow, is}
 use Rattle.standard.specs.Marks.{settled, newMark, settlesAll, isSome, rowMark}
 use Rattle.standard.specs.Meaning.{defaultRow, heldRow, startRows, updated, objectRows, allRows, gainOf, frameRows, lastRows, retain, retainIf, taken, decoded, unsettledCount}
+use Rattle.standard.specs.Tables.{inBlock}
 use Rattle.standard.specs.Events.{Event, resets, heard, missed, second, run}
-use Rattle.standard.proofs.Small.{and-right, Pairs}
+use Rattle.standard.proofs.Small.{and-right, nought-differs, Pairs}
 use Rattle.standard.proofs.Starts.{start-each}
-use Rattle.standard.proofs.Frames.{last-rows-have}
+use Rattle.standard.proofs.RowsOfFrame.{last-rows-have}
 use Rattle.standard.proofs.MarkLaws.{mark-stays, mark-all}
-use Rattle.standard.proofs.FirstBlock.{firstForm, FirstIn, ObjectForm, TreeForm, first-block}
+use Rattle.standard.proofs.FirstUpdates.{firstForm, FirstIn, ObjectForm, TreeForm, first-block}
 
 abbrev pub Marked : Row → Type 0
 Marked r = r .mark ≡ settled
@@ -150,3 +151,32 @@ frame-settles (o ∷ os) rs gs f h =
 pub all-active-settles : (st : State) (t : Tree) → TreeForm t → AllActive t → All (All Marked) (frameRows st t)
 unfolding frameRows
 all-active-settles st t f h = frame-settles (t .objects) (startRows st (kindsOf t)) [] f h
+
+-- The same, read off the rows of the first block
+
+-- a Dynamic object is active
+abbrev pub ActiveRow : Row → Type 0
+ActiveRow r = r .kind ≡ kindNumber dynamic → r .active ≡ pos 1
+
+row-active : (k : Kind) (g : ℤ) (u : Update) (r : Row) → ActiveRow (updated k g u r) → (not (isDynamic k) || isActive u) ≡ true
+unfolding updated
+row-active lfe g u r h = refl
+row-active bed g u r h = refl
+row-active isf g u r h = refl
+row-active dynamic g (inactive at) r h = absurd (nought-differs (h refl))
+row-active dynamic g (active b n) r h = refl
+
+rows-active : (os : List Object) (rs : List Row) (gs : List ℤ) → All ObjectForm os → All ActiveRow (inBlock 0 (allRows os rs gs))
+    → All (λ (o : Object). activeFirst (o .kind) (o .updates) ≡ true) os
+unfolding allRows objectRows
+rows-active [] rs gs f h = tt
+rows-active (o ∷ os) rs gs f h =
+    (said (o .kind) (o .updates) (f .0) (h .0), rows-active os (drop 1 rs) (map gainOf (objectRows (o .kind) (getD rs 0 noRow) (o .updates) gs)) (f .1) (h .1))
+  where
+    said : (k : Kind) (us : List Update) → FirstIn k us → ActiveRow (getD (objectRows k (getD rs 0 noRow) us gs) 0 noRow) → activeFirst k us ≡ true
+    said k [] f h = absurd f
+    said k (u ∷ us) f h = row-active k (getD gs 0 (pos 0)) u (getD rs 0 noRow) h
+
+pub active-rows-settle : (st : State) (t : Tree) → TreeForm t → All ActiveRow (inBlock 0 (frameRows st t)) → All (All Marked) (frameRows st t)
+unfolding frameRows
+active-rows-settle st t f h = all-active-settles st t f (rows-active (t .objects) (startRows st (kindsOf t)) [] f h)

@@ -4,18 +4,19 @@ use mathlib.Core.Path.{_≡_, refl}
 use mathlib.Core.Bool.{true}
 use mathlib.Core.List.{List, [], _∷_, _++_}
 use lib.IntN.{ℤ}
-use Rattle.bits.specs.Parsed.{Refusal, Parsed, got, refused}
-use Rattle.bits.proofs.Always.{Ok, All}
+use Rattle.bits.specs.Parsed.{Refusal}
+use Rattle.bits.proofs.Always.{All}
 use Rattle.standard.specs.Tree.{Kind, Tree, kindsOf}
 use Rattle.standard.specs.Rows.{Row, State, fresh}
-use Rattle.standard.specs.Meaning.{startRows, frameRows, taken}
+use Rattle.standard.specs.Meaning.{startRows, frameRows}
 use Rattle.standard.specs.Tables.{rowsOf, stateOf}
 use Rattle.standard.specs.Calls.{Lent, Done, accept, decline, decode}
-use Rattle.standard.specs.Events.{Event, resets, run, Beside, lend, secondCall}
+use Rattle.standard.specs.Events.{Event, resets, second, run, Beside, lend, Turn, events, secondTurn}
 use Rattle.standard.proofs.Small.{Pairs}
-use Rattle.standard.proofs.Frame.{starts-written, blocks-written, block-rows-have}
-use Rattle.standard.proofs.Marks.{Marked, Settled, starts-marked, blocks-marked, count-settled, noGap, no-gap, no-gap-since, AllActive, all-active-settles}
-use Rattle.standard.proofs.Tabled.{Good, Enough, Fit, fit, Holds, second-run, one-call}
+use Rattle.standard.proofs.ReadBack.{starts-written, blocks-written, first-written, block-rows-have}
+use Rattle.standard.proofs.Marks.{Marked, Settled, starts-marked, blocks-marked, count-settled, noGap, no-gap, no-gap-since, ActiveRow, active-rows-settle}
+use Rattle.standard.proofs.Endings.{Fit, ends}
+use Rattle.standard.proofs.Tabled.{Holds, SecondRoomy, second-run}
 
 -- no block row that a call wrote is unsettled, and none is counted
 pub record BlocksSettled (d : Done) : Type 0 where
@@ -52,36 +53,39 @@ decline-settled l r = nothing-unsettled _ refl refl refl
 
 -- Without a gap
 
-settled-call : (b : Beside) (l : List ℤ) (s : List ℕ) → Enough b → Good l → Settled (stateOf l) → FrameSettled (decode s (lend b l))
-settled-call b l s n g h =
-    one-call Fit s (fit s) FrameSettled b l n g
-    (λ t f. record { starts = accept-starts (lend b l) (stateOf l) t h; blocks = accept-settled (lend b l) (stateOf l) t f (blocks-marked (stateOf l) t h) })
-    (λ r. decline-settled (lend b l) r) (nothing-unsettled _ refl refl refl)
+pub settled-call : (s : List ℕ) (l : Lent) → Settled (stateOf (l .retained)) → FrameSettled (decode s l)
+settled-call s l h =
+    ends FrameSettled s l (λ n x y. nothing-unsettled _ refl refl refl) (λ p r b. decline-settled l r)
+    (λ p t f. record {
+      starts = accept-starts l (stateOf (l .retained)) t h;
+      blocks = accept-settled l (stateOf (l .retained)) t f (blocks-marked (stateOf (l .retained)) t h);
+    })
 
--- None is unsettled without a gap since the start,
-pub no-gap-call : (b : Beside) (l : List ℤ) (es : List Event) (s : List ℕ) → Enough b → Holds l fresh → noGap es ≡ true
-    → FrameSettled (decode s (lend b (run (secondCall b) l es)))
-no-gap-call b l es s n h e =
-    let x = second-run b l es n h in
-    settled-call b (run (secondCall b) l es) s n (x .good) (rw (x .state) (no-gap es e))
+-- whatever frame tables are lent at each event, and at last
+module _ (b : Beside) (l : List ℤ) (ts : List Turn) (s : List ℕ) (roomy : All SecondRoomy ts) (holds : Holds l fresh) where
+  settled-turns : Settled (run second fresh (events ts)) → FrameSettled (decode s (lend b (run secondTurn l ts)))
+  settled-turns h = settled-call s (lend b (run secondTurn l ts)) (rw (second-run l ts roomy holds .state) h)
 
--- or since the last reset.
-pub no-gap-since-call : (b : Beside) (l : List ℤ) (es es′ : List Event) (s : List ℕ) → Enough b → Holds l fresh → noGap es′ ≡ true
-    → FrameSettled (decode s (lend b (run (secondCall b) l (es ++ resets ∷ es′))))
-no-gap-since-call b l es es′ s n h e =
-    let x = second-run b l (es ++ resets ∷ es′) n h in
-    settled-call b (run (secondCall b) l (es ++ resets ∷ es′)) s n (x .good) (rw (x .state) (no-gap-since es es′ e))
+  -- None is unsettled without a gap since the start,
+  pub no-gap-call : noGap (events ts) ≡ true → FrameSettled (decode s (lend b (run secondTurn l ts)))
+  no-gap-call e = settled-turns (no-gap (events ts) e)
+
+  -- or since the last reset.
+  pub no-gap-since-call : (es es′ : List Event) → events ts ≡ es ++ resets ∷ es′ → noGap es′ ≡ true → FrameSettled (decode s (lend b (run secondTurn l ts)))
+  no-gap-since-call es es′ d e = settled-turns (rw d (no-gap-since es es′ e))
+
+-- Active first blocks
+
+-- in the first block that a call wrote, every Dynamic object is active
+abbrev pub FirstActive : Done → Type 0
+FirstActive d = All ActiveRow (rowsOf (d .answer .objects) (d .lent .blocks))
+
+accept-active : (l : Lent) (st : State) (t : Tree) → Fit t → FirstActive (accept l st t) → BlocksSettled (accept l st t)
+unfolding accept
+accept-active l st t f h = accept-settled l st t f (active-rows-settle st t (f .first) (rw (first-written l st t (f .sized .first)) at h))
 
 -- A payload with every Dynamic object active in its first block settles all its blocks, whatever was retained.
-pub all-active-call : (b : Beside) (l : List ℤ) (s : List ℕ) → Enough b → Good l → Ok AllActive (taken s) → BlocksSettled (decode s (lend b l))
-all-active-call b l s n g a =
-    one-call FitActive s (together (taken s) (fit s) a) BlocksSettled b l n g
-    (λ t f. accept-settled (lend b l) (stateOf l) t (f .0) (all-active-settles (stateOf l) t (f .0 .first) (f .1)))
-    (λ r. decline-settled (lend b l) r .blocks) (nothing-unsettled _ refl refl refl .blocks)
-  where
-    FitActive : Tree → Type 0
-    FitActive t = Fit t × AllActive t
-
-    together : (p : Parsed Tree) → Ok Fit p → Ok AllActive p → Ok FitActive p
-    together (got t q) f h = (f, h)
-    together (refused r) f h = tt
+pub all-active-call : (s : List ℕ) (l : Lent) → FirstActive (decode s l) → BlocksSettled (decode s l)
+all-active-call s l =
+    ends (λ d. FirstActive d → BlocksSettled d) s l (λ n x y h. nothing-unsettled _ refl refl refl .blocks) (λ p r b h. decline-settled l r .blocks)
+    (λ p t f h. accept-active l (stateOf (l .retained)) t f h)

@@ -5,18 +5,19 @@ use mathlib.Core.List.{List}
 use lib.IntN.{ℤ}
 use lib.ListN.{length}
 use Rattle.bits.specs.Parsed.{Refusal}
+use Rattle.bits.proofs.Always.{All}
 use Rattle.standard.specs.Tree.{Tree}
 use Rattle.standard.specs.Rows.{State, fresh}
 use Rattle.standard.specs.Meaning.{frameRows}
 use Rattle.standard.specs.Tables.{rowsOf, timingsOf, stateOf}
 use Rattle.standard.specs.Calls.{Lent, Done, accept, decline, decode}
-use Rattle.standard.specs.Events.{Event, run, Beside, lend, firstCall, secondCall}
+use Rattle.standard.specs.Events.{run, Beside, lend, Turn, events, firstTurn, secondTurn}
 use Rattle.standard.proofs.Small.{Pairs}
 use Rattle.standard.proofs.Agreement.{RowAgree}
-use Rattle.standard.proofs.Blocks.{blocks-pairs}
+use Rattle.standard.proofs.ByBlock.{blocks-pairs}
 use Rattle.standard.proofs.Demand3.{StartAgree, nothing-agrees, Agreement, demand3}
-use Rattle.standard.proofs.Frame.{starts-written, blocks-written, timings-written}
-use Rattle.standard.proofs.Tabled.{Enough, Holds, first-run, second-run, two-calls}
+use Rattle.standard.proofs.ReadBack.{starts-written, blocks-written, timings-written}
+use Rattle.standard.proofs.Tabled.{Enough, Holds, FirstRoomy, SecondRoomy, first-run, second-run, two-calls}
 
 -- Demand 3
 
@@ -54,11 +55,12 @@ decline-agree : (x y : Lent) (r : Refusal) → CallsAgree (decline x r) (decline
 unfolding decline
 decline-agree x y r = record { verdict = refl; objects = refl; blocks = refl; frames = nothing-written _ _ }
 
--- Two decoders start fresh and get the same resets; the second gets a gap notice in place of some payloads. Then a payload comes that both hear.
-pub demand3-calls : (b c : Beside) (l m : List ℤ) (es : List Event) (s : List ℕ) → Enough b → Enough c → Holds l fresh → Holds m fresh
-    → CallsAgree (decode s (lend b (run (firstCall b) l es))) (decode s (lend c (run (secondCall c) m es)))
-demand3-calls b c l m es s hb hc hl hm =
-    let x = first-run b l es hb hl in
-    let y = second-run c m es hc hm in
-    two-calls (Agreement (stateOf (run (firstCall b) l es)) (stateOf (run (secondCall c) m es))) s (rw (x .state, y .state) (demand3 es s)) CallsAgree b c (run (firstCall b) l es) (run (secondCall c) m es) hb hc (x .good) (y .good)
+-- Two decoders start fresh and get the same resets; the second gets a gap notice in place of some payloads. At each event each side lends
+-- frame tables of its own. Then a payload comes that both hear.
+pub demand3-turns : (b c : Beside) (l m : List ℤ) (ts : List Turn) (s : List ℕ) → Enough b → Enough c → All FirstRoomy ts → All SecondRoomy ts
+    → Holds l fresh → Holds m fresh → CallsAgree (decode s (lend b (run firstTurn l ts))) (decode s (lend c (run secondTurn m ts)))
+demand3-turns b c l m ts s hb hc n k hl hm =
+    let x = first-run l ts n hl in
+    let y = second-run m ts k hm in
+    two-calls (Agreement (stateOf (run firstTurn l ts)) (stateOf (run secondTurn m ts))) s (rw (x .state, y .state) (demand3 (events ts) s)) CallsAgree b c (run firstTurn l ts) (run secondTurn m ts) hb hc (x .good) (y .good)
     (λ t h. accept-agree _ _ _ _ t h) (λ r. decline-agree _ _ r) (record { verdict = refl; objects = refl; blocks = refl; frames = nothing-written _ _ })

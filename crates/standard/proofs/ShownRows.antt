@@ -1,4 +1,4 @@
--- Used rows can be shown: given a retained table in form, decode writes no start or block row that the row calls refuse with 6.
+-- Used rows can be shown: decode writes no start or block row that the row calls refuse with 6.
 use Prim.Native.Nat.{ℕ, _+_, _*_, _<_}
 use mathlib.Core.Path.{_≡_, refl}
 use mathlib.Core.List.{List, [], _∷_, _++_}
@@ -15,14 +15,14 @@ use Rattle.standard.specs.Rows.{Row, State, noRow}
 use Rattle.standard.specs.Meaning.{startRows}
 use Rattle.standard.specs.Tables.{rowsNumbers, stateOf}
 use Rattle.standard.specs.Calls.{Lent, Done, over, accept, decline, decode, rowNumber}
-use Rattle.standard.specs.Events.{Beside, lend}
 use Rattle.standard.proofs.Small.{Pairs}
-use Rattle.standard.proofs.Blocks.{all-at}
+use Rattle.standard.proofs.ByBlock.{all-at}
 use Rattle.standard.proofs.Laid.{rows-length, part-back}
 use Rattle.standard.proofs.Forms.{RowOk, ShownOk, row-shown}
-use Rattle.standard.proofs.FrameForms.{StartOk, starts-form, frame-form}
-use Rattle.standard.proofs.Frame.{blockRows, starts-count, blocks-count, block-rows-have}
-use Rattle.standard.proofs.Tabled.{Good, Enough, Fit, fit, rows-in, one-call}
+use Rattle.standard.proofs.FormKept.{StartOk, starts-form, frame-form}
+use Rattle.standard.proofs.ReadBack.{blockRows, starts-count, blocks-count, block-rows-have}
+use Rattle.standard.proofs.Endings.{Fit, ends}
+use Rattle.standard.proofs.Tabled.{rows-in}
 
 -- rows that may be shown, written over the head of a table
 written-shown : (rs : List Row) (l : List ℤ) (i : ℕ) → All ShownOk rs → i < length rs → rowNumber (over (rowsNumbers rs) l) i ≡ accepted
@@ -62,6 +62,7 @@ decline-shows : (l : Lent) (r : Refusal) → Shows (decline l r)
 unfolding decline
 decline-shows l r = nothing-used _ refl
 
-pub decode-shows : (b : Beside) (l : List ℤ) (s : List ℕ) → Enough b → Good l → Shows (decode s (lend b l))
-decode-shows b l s n g =
-    one-call Fit s (fit s) Shows b l n g (λ t f. accept-shows (lend b l) (stateOf l) t f (rows-in l (g .form))) (λ r. decline-shows (lend b l) r) (nothing-used _ refl)
+pub decode-shows : (s : List ℕ) (l : Lent) → Shows (decode s l)
+decode-shows s l =
+    ends Shows s l (λ n x y. nothing-used _ refl) (λ h r b. decline-shows l r)
+    (λ h t f. accept-shows l (stateOf (l .retained)) t f (rows-in (l .retained) (h .form)))

@@ -3,6 +3,7 @@ use Prim.Native.Nat.{ℕ}
 use mathlib.Core.Path.{_≡_, refl, sym, ap, subst}
 use mathlib.Core.Bool.{Bool, true, false, _&&_, false≢true}
 use mathlib.Core.List.{List, [], _∷_}
+use native.Mathlib.Omega.{arith}
 use lib.Dec.{T, eqb→eq}
 use lib.IntN.{ℤ, pos, negsuc}
 use Rattle.bits.proofs.Always.{All}
@@ -25,6 +26,9 @@ both x y p q = rw (p, q)
 pub number-is : (n : ℕ) (z : ℤ) → is n z ≡ true → z ≡ pos n
 number-is n (pos m) h = ap pos (eqb→eq m n (subst T (sym h) tt))
 number-is n (negsuc m) h = absurd (false≢true h)
+
+pub nought-differs : _≡_ {A = ℤ} (pos 0) (pos 1) → ⊥
+nought-differs e = let z : _≡_ {A = ℕ} 0 1 = cc in omega arith
 
 -- Lists
 

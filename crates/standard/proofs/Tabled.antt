@@ -1,12 +1,12 @@
 -- A retained table in form stands for a state, and the calls do to the table what the definitions do to the state.
 use Prim.Native.Nat.{ℕ, _≤_}
-use mathlib.Core.Path.{_≡_, refl, _∙_, ap}
+use mathlib.Core.Path.{_≡_, refl, subst, sym, _∙_, ap}
 use mathlib.Core.Bool.{Bool, true, false, cond, _&&_, false≢true}
 use mathlib.Core.List.{List, [], _∷_}
 use native.Mathlib.Omega.{arith}
 use lib.Dec.{leb, leb·zero}
 use lib.IntN.{ℤ, pos}
-use lib.ListN.{length, getD, replicate, set}
+use lib.ListN.{length, getD, replicate, set, length-replicate}
 use borrow.Author.Tests.{le-leb, leb-true}
 use Rattle.bits.specs.Parsed.{Refusal, Parsed, got, refused}
 use Rattle.bits.proofs.Always.{Ok, All}
@@ -17,16 +17,14 @@ use Rattle.standard.specs.Rows.{State, fresh}
 use Rattle.standard.specs.Meaning.{retain, retainIf, taken, decoded, gapped}
 use Rattle.standard.specs.Tables.{between, isFlag, rowsNumbers, countOf, stateOf, stateNumbers, allForm, inForm}
 use Rattle.standard.specs.Calls.{Done, over, unchanged, hasRoom, accept, decline, settle, decode, reset, gap}
-use Rattle.standard.specs.Events.{Event, resets, heard, missed, first, second, run, Beside, lend, firstCall, secondCall}
+use Rattle.standard.specs.Journal.{payload, gapNotice, resetNotice, replyTo}
+use Rattle.standard.specs.Events.{Event, resets, heard, missed, first, second, run, after, firstGets, secondGets, firstCall, secondCall, Beside, lend, Turn, events, firstTurn, secondTurn}
 use Rattle.standard.proofs.Small.{and-left, and-right, both}
-use Rattle.standard.proofs.Frames.{last-rows-length}
-use Rattle.standard.proofs.Payload.{InTree}
-use Rattle.standard.proofs.FirstBlock.{TreeForm, first-block}
-use Rattle.standard.proofs.Words.{WordsOk, words-ok}
-use Rattle.standard.proofs.Counts.{Sized, sized}
+use Rattle.standard.proofs.RowsOfFrame.{last-rows-length}
 use Rattle.standard.proofs.Forms.{RowOk}
-use Rattle.standard.proofs.FrameForms.{last-rows-form, all-form, form-all}
-use Rattle.standard.proofs.Laid.{over-length, state-back, state-length}
+use Rattle.standard.proofs.FormKept.{last-rows-form, all-form, form-all}
+use Rattle.standard.proofs.Laid.{over-length, over-same, state-back, state-length}
+use Rattle.standard.proofs.Endings.{Fit, fit}
 
 -- Tables that are long enough and in form
 
@@ -46,19 +44,6 @@ room b l n g = rw (g .long, n .start, n .blocks, n .timings)
 pub rows-in : (l : List ℤ) → inForm l ≡ true → All RowOk (stateOf l .rows)
 unfolding inForm
 rows-in l h = form-all (stateOf l .rows) (and-right (between (pos 0) (pos objectLimit) (getD l 0 (pos 0)) && isFlag (getD l 1 (pos 0))) _ h)
-
--- what every accepted payload's tree has
-pub record Fit (t : Tree) : Type 0 where
-  pub first : TreeForm t
-  pub words : InTree WordsOk t
-  pub sized : Sized t
-
-pub fit : (s : List ℕ) → Ok Fit (taken s)
-fit s = go (taken s) (first-block s) (words-ok s) (sized s)
-  where
-    go : (p : Parsed Tree) → Ok TreeForm p → Ok (InTree WordsOk) p → Ok Sized p → Ok Fit p
-    go (got t q) f w n = record { first = f; words = w; sized = n }
-    go (refused r) f w n = tt
 
 -- A table that stands for a state
 
@@ -110,7 +95,7 @@ decode-holds b l s n g = rw (decode-past b l s n g) (go (leb (length s) payloadL
     go true f = settle-holds b l (syntax s) g f
     go false f = record { good = g; state = refl }
 
--- by the ways in which it can end past the tests 5 and 6: of two calls on one payload, and of one
+-- two calls on one payload, by the ways in which both end past the tests 5 and 6
 
 module _ (Q : Tree → Type 0) (s : List ℕ) (holds : Ok Q (taken s)) where
   pub two-calls : (P : Done → Done → Type 0) (b c : Beside) (l m : List ℤ) → Enough b → Enough c → Good l → Good m
@@ -130,10 +115,6 @@ module _ (Q : Tree → Type 0) (s : List ℕ) (holds : Ok Q (taken s)) where
       go true q = settled (syntax s) q
       go false q = u
 
-  pub one-call : (P : Done → Type 0) (b : Beside) (l : List ℤ) → Enough b → Good l → ((t : Tree) → Q t → P (accept (lend b l) (stateOf l) t))
-      → ((r : Refusal) → P (decline (lend b l) r)) → P (unchanged (lend b l) size) → P (decode s (lend b l))
-  one-call P b l n g f k u = two-calls (λ x y. P x) b b l l n n g g f k u
-
 -- Reset and gap
 
 -- zeros are the numbers of the fresh state
@@ -144,6 +125,13 @@ zeros-fresh = refl
 fresh-holds : (l : List ℤ) → leb retainedLength (length l) ≡ true → Holds (over (stateNumbers fresh) l) fresh
 unfolding fresh objectLimit
 fresh-holds l e = written-holds fresh l e refl tt (omega arith)
+
+-- All zeros is a fresh decoder, in a table of any sufficient length.
+pub zeros-hold : (n : ℕ) → retainedLength ≤ n → Holds (replicate n (pos 0)) fresh
+zeros-hold n h =
+    let zeros : List ℤ = replicate n (pos 0) in
+    let same : over (stateNumbers fresh) zeros ≡ zeros = ap (λ z. over z zeros) (sym zeros-fresh) ∙ over-same retainedLength n (pos 0) h in
+    subst (λ l. Holds l fresh) same (fresh-holds zeros (ap (leb retainedLength) (length-replicate n (pos 0)) ∙ le-leb retainedLength n h))
 
 reset-holds : (l : List ℤ) → leb retainedLength (length l) ≡ true → Holds (reset l .retained) fresh
 unfolding reset
@@ -169,28 +157,50 @@ gap-holds l g = rw (g .long, g .form) (noted l (g .long) (g .form))
 
 -- Programmes
 
-first-holds : (b : Beside) (l : List ℤ) (st : State) (e : Event) → Enough b → Holds l st → Holds (firstCall b l e) (first st e)
-unfolding firstCall first
-first-holds b l st resets n h = reset-holds l (h .good .long)
-first-holds b l st (heard s) n h = rw (← h .state) (decode-holds b l s n (h .good))
-first-holds b l st (missed s) n h = rw (← h .state) (decode-holds b l s n (h .good))
+payload-holds : (b : Beside) (l : List ℤ) (st : State) (s : List ℕ) → Enough b → Holds l st → Holds (after (lend b l) (payload s) .retained) (decoded st s)
+unfolding after replyTo
+payload-holds b l st s n h = rw (← h .state) (decode-holds b l s n (h .good))
 
-second-holds : (b : Beside) (l : List ℤ) (st : State) (e : Event) → Enough b → Holds l st → Holds (secondCall b l e) (second st e)
-unfolding secondCall second
-second-holds b l st resets n h = reset-holds l (h .good .long)
-second-holds b l st (heard s) n h = rw (← h .state) (decode-holds b l s n (h .good))
-second-holds b l st (missed s) n h = rw (← h .state) (gap-holds l (h .good))
+reset-record : (b : Beside) (l : List ℤ) (st : State) → Holds l st → Holds (after (lend b l) resetNotice .retained) fresh
+unfolding after replyTo
+reset-record b l st h = reset-holds l (h .good .long)
 
-run-holds : (f : List ℤ → Event → List ℤ) (g : State → Event → State) → ((l : List ℤ) (st : State) (e : Event) → Holds l st → Holds (f l e) (g st e))
-    → (l : List ℤ) (st : State) (es : List Event) → Holds l st → Holds (run f l es) (run g st es)
+gap-record : (b : Beside) (l : List ℤ) (st : State) → Holds l st → Holds (after (lend b l) gapNotice .retained) (gapped st)
+unfolding after replyTo
+gap-record b l st h = rw (← h .state) (gap-holds l (h .good))
+
+first-holds : (b : Beside) (l : List ℤ) (st : State) (e : Event) → Enough b → Holds l st → Holds (firstCall (lend b l) e .retained) (first st e)
+unfolding firstCall firstGets first
+first-holds b l st resets n h = reset-record b l st h
+first-holds b l st (heard s) n h = payload-holds b l st s n h
+first-holds b l st (missed s) n h = payload-holds b l st s n h
+
+second-holds : (b : Beside) (l : List ℤ) (st : State) (e : Event) → Enough b → Holds l st → Holds (secondCall (lend b l) e .retained) (second st e)
+unfolding secondCall secondGets second
+second-holds b l st resets n h = reset-record b l st h
+second-holds b l st (heard s) n h = payload-holds b l st s n h
+second-holds b l st (missed s) n h = gap-record b l st h
+
+-- a step keeps a table and its state together wherever the turn has room
+turns-hold : (Roomy : Turn → Type 0) (f : List ℤ → Turn → List ℤ) (g : State → Event → State)
+    → ((l : List ℤ) (st : State) (t : Turn) → Roomy t → Holds l st → Holds (f l t) (g st (t .event)))
+    → (l : List ℤ) (st : State) (ts : List Turn) → All Roomy ts → Holds l st → Holds (run f l ts) (run g st (events ts))
 unfolding run
-run-holds f g k l st [] h = h
-run-holds f g k l st (e ∷ es) h = run-holds f g k (f l e) (g st e) es (k l st e h)
+turns-hold Roomy f g k l st [] n h = h
+turns-hold Roomy f g k l st (t ∷ ts) n h = turns-hold Roomy f g k (f l t) (g st (t .event)) ts (n .1) (k l st t (n .0) h)
 
--- A retained table that starts fresh stays in form, so that 6 never arises.
+-- A retained table that starts fresh stays in form, whatever frame tables are lent beside it, so that 6 never arises.
 
-pub first-run : (b : Beside) (l : List ℤ) (es : List Event) → Enough b → Holds l fresh → Holds (run (firstCall b) l es) (run first fresh es)
-first-run b l es n h = run-holds (firstCall b) first (λ l st e. first-holds b l st e n) l fresh es h
+abbrev pub FirstRoomy : Turn → Type 0
+FirstRoomy t = Enough (t .one)
 
-pub second-run : (b : Beside) (l : List ℤ) (es : List Event) → Enough b → Holds l fresh → Holds (run (secondCall b) l es) (run second fresh es)
-second-run b l es n h = run-holds (secondCall b) second (λ l st e. second-holds b l st e n) l fresh es h
+abbrev pub SecondRoomy : Turn → Type 0
+SecondRoomy t = Enough (t .two)
+
+pub first-run : (l : List ℤ) (ts : List Turn) → All FirstRoomy ts → Holds l fresh → Holds (run firstTurn l ts) (run first fresh (events ts))
+unfolding firstTurn
+first-run l ts n h = turns-hold FirstRoomy firstTurn first (λ l st t. first-holds (t .one) l st (t .event)) l fresh ts n h
+
+pub second-run : (l : List ℤ) (ts : List Turn) → All SecondRoomy ts → Holds l fresh → Holds (run secondTurn l ts) (run second fresh (events ts))
+unfolding secondTurn
+second-run l ts n h = turns-hold SecondRoomy secondTurn second (λ l st t. second-holds (t .two) l st (t .event)) l fresh ts n h

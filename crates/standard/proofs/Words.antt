@@ -1,5 +1,5 @@
 -- Every word that the syntax gives is in the form that a row asks for.
-use Prim.Native.Nat.{ℕ, zero, suc, _≤_, _<_, min}
+use Prim.Native.Nat.{ℕ, zero, suc, _-_, _≤_, _<_, min}
 use mathlib.Core.Path.{_≡_, refl, _∙_, ap}
 use mathlib.Core.Bool.{Bool, true, false, cond, _&&_}
 use mathlib.Core.List.{List}
@@ -7,12 +7,13 @@ use mathlib.Core.Logic.{_≢_}
 use mathlib.Core.Option.{Option}
 use native.Mathlib.Omega.{arith}
 use lib.Dec.{leb, eqb, leb·zero}
-use lib.IntN.{ℤ, pos, negsuc, negℤ}
+use lib.IntN.{ℤ, pos, negℤ}
 use borrow.Author.Tests.{le-leb, leb-true, eqb-true, eqb-false}
 use Rattle.bits.specs.Bits.{isSet}
 use Rattle.bits.specs.Parsed.{Placed}
 use Rattle.bits.proofs.Always.{Ok, All, Always, IfSome, OfWord, bind, after, next, mapped, mapped-such, choose, given, none-given, repeated, required, if-some, at-place}
 use Rattle.bits.proofs.Fields.{read-lt}
+use Rattle.standard.specs.Numbers.{sideLimit, heightLimit, sizeLimit, priorityLimit}
 use Rattle.standard.specs.Tree.{Kind, isDynamic, Zone, Size, GainWord, level, copied, PositionWord, absolute, moved, Basic, Groups, Render, default, kept, Update, inactive, active, Object}
 use Rattle.standard.specs.Updates.{decibels, gainWord, priorityWord, basic, differential, absolutely, positionWord, bit, zoneWord, sized, sizeWord, screenWord, groups, render, activeUpdate, update, object}
 use Rattle.standard.specs.Meaning.{taken}
@@ -60,11 +61,11 @@ gain-ok =
     (choose (eqb code 1) (given _ refl) (choose (eqb code 2) (mapped-such _ (read-lt 6 _) decibels-form) (given _ tt)))
 
 abbrev pub PriorityOk : ℤ → Type 0
-PriorityOk v = between (pos 0) (pos 32) v ≡ true
+PriorityOk v = between (pos 0) (pos priorityLimit) v ≡ true
 
 priority-ok : Always PriorityOk priorityWord
 unfolding priorityWord
-priority-ok = after _ _ λ usual. choose usual (given _ refl) (mapped-such pos (read-lt 5 _) λ v h. pos-between 32 v (omega arith))
+priority-ok = after _ _ λ usual. choose usual (given _ refl) (mapped-such pos (read-lt 5 _) λ v h. pos-between priorityLimit v (omega arith))
 
 pub record BasicOk (b : Basic) : Type 0 where
   pub gain : IfSaid GainOk (b .gain)
@@ -85,16 +86,16 @@ abbrev pub PositionOk : PositionWord → Type 0
 PositionOk (absolute p) = positionForm p ≡ true
 PositionOk (moved d) = Unit {0}
 
-height-form : (positive : Bool) (z : ℕ) → z < 16 → between (negsuc 14) (pos 15) (cond positive (pos z) (negℤ (pos z))) ≡ true
-height-form true z h = le-leb z 15 (omega arith)
+height-form : (positive : Bool) (z : ℕ) → z < 16 → between (negℤ (pos heightLimit)) (pos heightLimit) (cond positive (pos z) (negℤ (pos z))) ≡ true
+height-form true z h = le-leb z heightLimit (omega arith)
 height-form false zero h = refl
-height-form false (suc z) h = both _ _ (le-leb z 14 (omega arith)) refl
+height-form false (suc z) h = both _ _ (le-leb z (heightLimit - 1) (omega arith)) refl
 
 absolute-ok : Always PositionOk absolutely
 unfolding absolutely positionForm positionTests
 absolute-ok =
     after _ _ λ x. after _ _ λ y. after _ _ λ positive. bind _ (read-lt 4 _) λ z hz.
-    given _ (both _ _ (pos-between 62 (min x 62) (omega arith)) (both _ _ (pos-between 62 (min y 62) (omega arith)) (both _ _ (height-form positive z hz) refl)))
+    given _ (both _ _ (pos-between sideLimit (min x sideLimit) (omega arith)) (both _ _ (pos-between sideLimit (min y sideLimit) (omega arith)) (both _ _ (height-form positive z hz) refl)))
 
 position-ok : (first : Bool) → Always PositionOk (positionWord first)
 unfolding positionWord differential
@@ -121,7 +122,7 @@ SizeOk s = sizeForm s ≡ true
 sized-ok : (w d h : ℕ) → w < 32 → d < 32 → h < 32 → SizeOk (sized w d h)
 unfolding sized sizeForm
 sized-ok w d h j k l =
-    both _ _ (pos-between 31 w (omega arith)) (both _ _ (pos-between 31 d (omega arith)) (both _ _ (pos-between 31 h (omega arith)) refl))
+    both _ _ (pos-between sizeLimit w (omega arith)) (both _ _ (pos-between sizeLimit d (omega arith)) (both _ _ (pos-between sizeLimit h (omega arith)) refl))
 
 size-ok : Always SizeOk sizeWord
 unfolding sizeWord

@@ -102,3 +102,9 @@ assignment count = do
     kinds ← contents
     require (eqb (length kinds) count) (invalid context.program-assignment-object-count at)
     pure kinds
+
+-- What computing opens
+
+unfoldable pub computed : Unit {0}
+unfolding version objectCount onlyDynamic chosen standardBeds nonstandardBeds oneBed joined beds isfCounts isfs dynamics contents assignment
+computed = tt

@@ -165,3 +165,9 @@ unfoldable pub shownCall : List ℤ → ℕ → ShownAnswer
 shownCall l i =
     let n = rowNumber l i in
     record { number = n; shown = cond (eqb n number.accepted) (shown (rowOf (rowPart l i))) nothingShown }
+
+-- What computing opens
+
+unfoldable pub computed : Unit {0}
+unfolding hasRoom accept decline settle decode reset gap timingCall rampCall rowPart rowNumber partCall shownCall
+computed = tt

@@ -1,22 +1,23 @@
--- Every definition opened at once, for what is proved by computation: `unfolding computed`.
+-- Every definition opened at once, for what is proved by computation: `unfolding computed`. Each file names what it opens.
 use Rattle.bits.specs.Bits.{bitAt, field, isSet}
 use Rattle.bits.specs.Parsed.{_>>=_, _>>_, mapP, pure, refuse, within, refusedAs, times, optional, each, here, theEnd, goTo, require, placed}
 use Rattle.bits.specs.Reads.{read, flag, skip, zeros, padding, signed, readSigned, extended, skipBytes, laterGroups, variableBits}
-use Rattle.standard.specs.Numbers.{rowWidth, objectLimit, blockLimit, retainedHead, retainedLength, startLength, blocksLength, timingsLength, payloadLimit, elementLimit, frameLength}
-use Rattle.standard.specs.Assignment.{version, objectCount, onlyDynamic, chosen, standardBeds, nonstandardBeds, oneBed, joined, beds, isfCounts, isfs, dynamics, contents, assignment}
-use Rattle.standard.specs.Updates.{decibels, gainWord, priorityWord, basic, differential, absolutely, distance, positionWord, bit, zoneWord, sized, sizeWord, screenWord, groups, render, status, activeUpdate, tableData, update, object}
-use Rattle.standard.specs.Syntax.{sampleOffsets, sampleOffset, rampDurations, ramp, timing, reserved, objectElement, trim, elementCount, elementSize, alternate, once, content, element, elements, present, body, payload, syntax}
-use Rattle.standard.specs.Rows.{fresh, defaultPicture}
-use Rattle.standard.specs.Marks.{marked, settles, settlesAll, newMark, rowMark}
-use Rattle.standard.specs.Meaning.{heldRow, defaultRow, sameKinds, startRows, copiedGain, gainSaid, newGain, clamp, stepped, positionSaid, newPosition, newPicture, rowPicture, updated, objectRows, allRows, frameRows, lastRow, lastRows, retain, unsettledCount, taken, retainIf, decoded, gapped}
-use Rattle.standard.specs.Tables.{rowNumbers, rowOf, rowsNumbers, rowsOf, byBlock, timingNumbers, timingsOf, countOf, stateOf, stateNumbers, gainForm, positionTests, positionForm, zoneForm, sizeForm, pictureTests, pictureForm, markForm, isDefault, activeForm, fixedForm, shownTests, shownForm, rowForm, allForm, inForm}
-use Rattle.standard.specs.Timing.{rising, apart, timingTest}
-use Rattle.standard.specs.Ramps.{still, walk, choice, fraction}
-use Rattle.standard.specs.Shown.{shownGain, shown, nothingShown}
-use Rattle.standard.specs.Calls.{hasRoom, accept, decline, settle, decode, reset, gap, timingCall, rampCall, rowPart, rowNumber, partCall, shownCall}
-use Rattle.standard.specs.Events.{first, second, run, firstCall, secondCall}
-use Rattle.standard.specs.Journal.{payloadStep, step, rest, journalFrom, journal, replyTo, freshTables, digitsOf, decimal, spaced, answerText, replyText, line, lastLine, linesFrom, printed}
+use Rattle.standard.specs.Numbers as numbers
+use Rattle.standard.specs.Assignment as assignment
+use Rattle.standard.specs.Updates as updates
+use Rattle.standard.specs.Syntax as syntax
+use Rattle.standard.specs.Rows as rows
+use Rattle.standard.specs.Marks as marks
+use Rattle.standard.specs.Meaning as meaning
+use Rattle.standard.specs.Tables as tables
+use Rattle.standard.specs.Timing as timing
+use Rattle.standard.specs.Ramps as ramps
+use Rattle.standard.specs.Shown as shown
+use Rattle.standard.specs.Calls as calls
+use Rattle.standard.specs.Events as events
+use Rattle.standard.specs.Journal as journal
+use Rattle.standard.specs.JournalParts as journalParts
 
 unfoldable pub computed : Unit {0}
-unfolding bitAt field isSet _>>=_ _>>_ mapP pure refuse within refusedAs times optional each here theEnd goTo require placed read flag skip zeros padding signed readSigned laterGroups variableBits rowWidth objectLimit blockLimit retainedHead retainedLength startLength blocksLength timingsLength payloadLimit elementLimit frameLength extended version objectCount onlyDynamic chosen standardBeds nonstandardBeds oneBed joined beds isfCounts isfs dynamics skipBytes contents assignment decibels gainWord priorityWord basic differential absolutely distance positionWord bit zoneWord sized sizeWord screenWord groups render status activeUpdate tableData update object sampleOffsets sampleOffset rampDurations ramp timing reserved objectElement trim elementCount elementSize alternate once content element elements present body payload syntax fresh defaultPicture marked settles settlesAll newMark rowMark heldRow defaultRow sameKinds startRows copiedGain gainSaid newGain clamp stepped positionSaid newPosition newPicture rowPicture updated objectRows allRows frameRows lastRow lastRows retain unsettledCount taken retainIf decoded gapped rowNumbers rowOf rowsNumbers rowsOf byBlock timingNumbers timingsOf countOf stateOf stateNumbers gainForm positionTests positionForm zoneForm sizeForm pictureTests pictureForm markForm isDefault activeForm fixedForm shownTests shownForm rowForm allForm inForm rising apart timingTest still walk choice fraction shownGain shown nothingShown hasRoom accept decline settle decode reset gap timingCall rampCall rowPart rowNumber partCall shownCall first second run firstCall secondCall payloadStep step rest journalFrom journal replyTo freshTables digitsOf decimal spaced answerText replyText line lastLine linesFrom printed
+unfolding bitAt field isSet _>>=_ _>>_ mapP pure refuse within refusedAs times optional each here theEnd goTo require placed read flag skip zeros padding signed readSigned extended skipBytes laterGroups variableBits numbers.computed assignment.computed updates.computed syntax.computed rows.computed marks.computed meaning.computed tables.computed timing.computed ramps.computed shown.computed calls.computed events.computed journal.computed journalParts.computed
 computed = tt

@@ -258,3 +258,7 @@ per-object-trim-disable-flag = 85
 
 abbrev pub per-object-trim-disable-flags : ℕ
 per-object-trim-disable-flags = 86
+
+-- how many there are
+abbrev pub contextCount : ℕ
+contextCount = 86

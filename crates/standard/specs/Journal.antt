@@ -155,3 +155,9 @@ linesFrom n l (x ∷ xs) e =
 -- what the journal program prints
 unfoldable pub printed : List ℕ → List ℕ
 printed s = let j = journal s in linesFrom 0 freshTables (j .entries) (j .ending)
+
+-- What computing opens
+
+unfoldable pub computed : Unit {0}
+unfolding payloadStep step rest journalFrom journal replyTo freshTables digitsOf decimal spaced answerText replyText line lastLine linesFrom printed
+computed = tt

@@ -46,3 +46,9 @@ readOn r (part ∷ parts) =
 
 unfoldable pub journalOfParts : List (List ℕ) → Journal
 journalOfParts parts = readOn (waiting 0 []) parts
+
+-- What computing opens
+
+unfoldable pub computed : Unit {0}
+unfolding takeFrom arrive endOf readOn journalOfParts
+computed = tt

@@ -13,8 +13,8 @@ pub mod Floats
 pub mod Ramps
 pub mod Shown
 pub mod Calls
-pub mod Events
 pub mod Journal
+pub mod Events
 pub mod JournalParts
 pub mod Computed
 pub mod Cases

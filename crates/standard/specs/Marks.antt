@@ -54,3 +54,9 @@ newMark r m = cond (settlesAll r) settled m
 -- fixed kinds are settled in every block
 unfoldable pub rowMark : Kind → Render → ℤ → ℤ
 rowMark k r m = cond (isDynamic k) (newMark r m) settled
+
+-- What computing opens
+
+unfoldable pub computed : Unit {0}
+unfolding marked settles settlesAll newMark rowMark
+computed = tt

@@ -158,3 +158,9 @@ decoded st s = retainIf st (taken s)
 
 unfoldable pub gapped : State → State
 gapped st = record { doubt = pos 1; rows = st .rows }
+
+-- What computing opens
+
+unfoldable pub computed : Unit {0}
+unfolding heldRow defaultRow sameKinds startRows copiedGain gainSaid newGain clamp stepped positionSaid newPosition newPicture rowPicture updated objectRows allRows frameRows lastRow lastRows retain unsettledCount taken retainIf decoded gapped
+computed = tt

@@ -161,3 +161,9 @@ index = 12
 -- a number alone: context 0, place 0
 abbrev pub alone : ℕ → Refusal
 alone n = record { number = n; context = 0; place = 0 }
+
+-- What computing opens
+
+unfoldable pub computed : Unit {0}
+unfolding rowWidth objectLimit blockLimit retainedHead retainedLength startLength blocksLength timingsLength payloadLimit elementLimit frameLength
+computed = tt

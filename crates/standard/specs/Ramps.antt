@@ -33,3 +33,9 @@ choice sample ts = walk sample 0 ts
 
 unfoldable pub fraction : Choice → Float
 fraction c = ratio (pos (c .elapsed)) (c .duration)
+
+-- What computing opens
+
+unfoldable pub computed : Unit {0}
+unfolding still walk choice fraction
+computed = tt

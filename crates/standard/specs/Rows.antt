@@ -90,3 +90,9 @@ is n v = eqℤ v (pos n)
 
 abbrev pub isSilent : ℤ → Bool
 isSilent v = eqℤ v silence
+
+-- What computing opens
+
+unfoldable pub computed : Unit {0}
+unfolding fresh defaultPicture
+computed = tt

@@ -45,3 +45,9 @@ shown r =
 unfoldable pub nothingShown : Shown
 nothingShown =
     record { x = nought; y = nought; z = nought; width = nought; depth = nought; height = nought; priority = nought; gain = silent }
+
+-- What computing opens
+
+unfoldable pub computed : Unit {0}
+unfolding shownGain shown nothingShown
+computed = tt

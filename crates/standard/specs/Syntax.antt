@@ -170,3 +170,9 @@ payload = do
 
 unfoldable pub syntax : List ℕ → Parsed Tree
 syntax s = payload s (length s * 8) 0
+
+-- What computing opens
+
+unfoldable pub computed : Unit {0}
+unfolding sampleOffsets sampleOffset rampDurations ramp timing reserved objectElement trim elementCount elementSize alternate once content element elements present body payload syntax
+computed = tt

@@ -166,3 +166,9 @@ allForm (r ∷ rs) = rowForm r && allForm rs
 
 unfoldable pub inForm : List ℤ → Bool
 inForm l = upTo objectLimit (getD l 0 (pos 0)) && isFlag (getD l 1 (pos 0)) && allForm (stateOf l .rows)
+
+-- What computing opens
+
+unfoldable pub computed : Unit {0}
+unfolding rowNumbers rowOf rowsNumbers rowsOf byBlock timingNumbers timingsOf countOf stateOf stateNumbers gainForm positionTests positionForm zoneForm sizeForm pictureTests pictureForm markForm isDefault activeForm fixedForm shownTests shownForm rowForm allForm inForm
+computed = tt

@@ -25,3 +25,9 @@ apart n (t ∷ ts) =
 -- 8 comes first: one start that falls is enough
 unfoldable pub timingTest : List Timing → ℕ
 timingTest ts = cond (rising 0 ts) (apart 0 ts) ordering
+
+-- What computing opens
+
+unfoldable pub computed : Unit {0}
+unfolding rising apart timingTest
+computed = tt

@@ -176,3 +176,9 @@ object m k = do
   u ← update k true
   later ← times m (update k false)
   pure (record { kind = k; updates = u ∷ later })
+
+-- What computing opens
+
+unfoldable pub computed : Unit {0}
+unfolding decibels gainWord priorityWord basic differential absolutely distance positionWord bit zoneWord sized sizeWord screenWord groups render status activeUpdate tableData update object
+computed = tt

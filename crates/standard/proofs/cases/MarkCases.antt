@@ -5,7 +5,7 @@ use lib.Dec.{T}
 use lib.IntN.{pos}
 use Rattle.standard.specs.Cases.{Case, allHold}
 use Rattle.standard.specs.Journal.{Record, payload, gapNotice, resetNotice}
-use Rattle.standard.proofs.Writer.{Bits, _⊳_, said, saidWithLfe, blocks, off, on, kept, unity, level, place, to, moved, free, plain, groups, first, restOne, movedOne, neg, onRow, offRow, defaultOf, inactiveOf, shows, written}
+use Rattle.standard.proofs.cases.Writer.{Bits, _⊳_, said, saidWithLfe, blocks, off, on, kept, unity, level, place, to, moved, free, plain, groups, first, restOne, movedOne, neg, onRow, offRow, defaultOf, inactiveOf, shows, far, written}
 
 -- the object was at (10, 20, 5), and then payloads were missed
 abbrev doubtful : List Record
@@ -107,6 +107,6 @@ unfoldable pub markCases : List Case
 unfolding retainedCases doubtCases clearingCases settlingCases
 markCases = retainedCases ++ doubtCases ++ clearingCases ++ settlingCases
 
-pub mark-cases : T (allHold markCases)
+pub mark-cases : T (allHold far markCases)
 unfolding written settles markCases
 mark-cases = tt

@@ -6,7 +6,7 @@ use lib.IntN.{pos}
 use lib.ListN.{length, replicate}
 use Rattle.standard.specs.Contexts as context
 use Rattle.standard.specs.Cases.{Case, plainRow, allHold}
-use Rattle.standard.proofs.Writer.{Bits, _⊳_, bytes, element, elements, said, saidWithLfe, block, timed, blocks, off, on, unity, level, usual, place, plain, first, neg, onRow, offRow, defaultOf, inactiveOf, gives, shows, fails, written}
+use Rattle.standard.proofs.cases.Writer.{Bits, _⊳_, bytes, element, elements, said, saidWithLfe, block, timed, blocks, off, on, unity, level, usual, place, plain, first, neg, onRow, offRow, defaultOf, inactiveOf, gives, shows, fails, farther, written}
 
 -- version 0, n objects, a content
 unfoldable pub assigned : ℕ → Bits → Bits
@@ -158,6 +158,6 @@ unfoldable pub readingCases : List Case
 unfolding countCases assignmentCases timingCases tableDataCases
 readingCases = countCases ++ assignmentCases ++ timingCases ++ tableDataCases
 
-pub reading-cases : T (allHold readingCases)
+pub reading-cases : T (allHold farther readingCases)
 unfolding written assigned atRest assigns runs indexed oneBed standard nonstandard lfeOnly readingCases
 reading-cases = tt

@@ -1,63 +1,12 @@
--- Document 01, "Journal": its worked journal and small ones, printed by computation; and as many turns as bytes suffice.
+-- A record has 2 bytes at least, so that as many turns as bytes suffice for a journal.
 use Prim.Native.Nat.{ℕ, zero, suc, _+_, _*_, _≤_}
-use Prim.Native.String.{String}
-use Prim.Native.Char.{code}
 use mathlib.Core.Path.{_≡_, refl, ap}
 use mathlib.Core.Bool.{Bool, true, false, cond, _&&_}
 use mathlib.Core.List.{List, [], _∷_}
 use native.Mathlib.Omega.{arith}
 use lib.Dec.{leb, eqb}
 use lib.ListN.{length, take, drop, length-drop}
-use Rattle.standard.specs.Computed.{computed}
-use Rattle.standard.specs.Journal.{payload, gapNotice, resetNotice, Step, whole, more, unknown, payloadStep, step, entered, journalFrom, printed}
-
--- Printed
-
--- a text as its bytes
-abbrev pub ascii : String → List ℕ
-ascii String.[] = []
-ascii (String._∷_ c s) = code c ∷ ascii s
-
-abbrev pub Prints : List ℕ → String → Type 0
-Prints s text = printed s ≡ ascii text
-
--- the journal of document 01
-pub worked : Prints (0x47 ∷ 0x50 ∷ 0x50 ∷ 0x4c ∷ 0x00 ∷ 0x06 ∷ 0x01 ∷ 0x04 ∷ 0x48 ∷ 0x00 ∷ 0x06 ∷ 0x00 ∷ 0x50 ∷ 0x4c ∷ 0x00 ∷ 0x00 ∷ 0x50 ∷ 0x4c ∷ 0x00 ∷ [])
-    "1 0 gap\n2 2 ok 1 1 1\n3 12 no 1 1 0\ntorn 16\n"
-unfolding computed
-worked = refl
-
-pub empty : Prints [] "end 0\n"
-unfolding computed
-empty = refl
-
-pub lone-byte : Prints (0x50 ∷ []) "torn 0\n"
-unfolding computed
-lone-byte = refl
-
-pub unknown-mark : Prints (0x50 ∷ 0x47 ∷ []) "mark 0\n"
-unfolding computed
-unknown-mark = refl
-
-pub gap-and-lone-byte : Prints (0x47 ∷ 0x50 ∷ 0x47 ∷ []) "1 0 gap\ntorn 2\n"
-unfolding computed
-gap-and-lone-byte = refl
-
-pub torn-length : Prints (0x50 ∷ 0x4c ∷ 0x00 ∷ []) "torn 0\n"
-unfolding computed
-torn-length = refl
-
-pub torn-payload : Prints (0x50 ∷ 0x4c ∷ 0x01 ∷ 0x00 ∷ 0x40 ∷ []) "torn 0\n"
-unfolding computed
-torn-payload = refl
-
--- a reset ends the doubt that a gap began
-pub gap-and-reset : Prints (0x47 ∷ 0x50 ∷ 0x52 ∷ 0x53 ∷ 0x50 ∷ 0x4c ∷ 0x00 ∷ 0x06 ∷ 0x01 ∷ 0x04 ∷ 0x48 ∷ 0x00 ∷ 0x06 ∷ 0x00 ∷ [])
-    "1 0 gap\n2 2 reset\n3 4 ok 1 1 0\nend 3\n"
-unfolding computed
-gap-and-reset = refl
-
--- Turns
+use Rattle.standard.specs.Journal.{payload, gapNotice, resetNotice, Step, whole, more, unknown, payloadStep, step, entered, journalFrom}
 
 -- a whole record has 2 bytes at least
 abbrev pub Sized : Step → Type 0

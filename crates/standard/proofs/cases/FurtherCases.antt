@@ -2,15 +2,16 @@
 use Prim.Native.Nat.{ℕ}
 use mathlib.Core.List.{List, [], _∷_, _++_}
 use lib.Dec.{T}
-use lib.IntN.{ℤ, pos}
+use lib.IntN.{pos}
 use lib.ListN.{replicate}
+use Rattle.standard.specs.Rows.{Row}
 use Rattle.standard.specs.Journal.{payload}
 use Rattle.standard.specs.Contexts as context
 use Rattle.standard.specs.Cases.{Case, allHold}
-use Rattle.standard.proofs.Writer.{Bits, _⊳_, said, blocks, off, on, kept, unity, silent, level, copied, usual, priority, spot, place, to, moved, free, locked, plain, rich, groups, first, restOne, neg, row, onRow, offRow, richRow, defaultOf, shows, fails, written}
+use Rattle.standard.proofs.cases.Writer.{Bits, _⊳_, said, blocks, off, on, kept, unity, silent, level, copied, usual, priority, spot, place, to, moved, free, locked, plain, rich, groups, first, restOne, neg, row, onRow, offRow, richRow, defaultOf, shows, fails, far, written}
 
 -- n new objects in b blocks: what is said of them, and their rows
-unfoldable pub become : ℕ → ℕ → Bits → List (List ℤ) → Case
+unfoldable pub become : ℕ → ℕ → Bits → List Row → Case
 become n b content rows = shows [] (said n (blocks b ++ content)) n b 0 (replicate n (defaultOf 3 1)) rows
 
 -- an object that moves to (10, 20, 5) with a rich picture
@@ -138,6 +139,6 @@ unfoldable pub furtherCases : List Case
 unfolding positionCases restCases basicCases renderCases
 furtherCases = positionCases ++ restCases ++ basicCases ++ renderCases
 
-pub further : T (allHold furtherCases)
+pub further : T (allHold far furtherCases)
 unfolding written become furtherCases
 further = tt

@@ -4,17 +4,23 @@ use mathlib.Core.Path.{_≡_, refl, sym, _∙_, ap}
 use mathlib.Core.Logic.{_≢_}
 use mathlib.Core.Bool.{Bool, true, false, cond, _&&_, true≢false}
 use mathlib.Core.List.{List, [], _∷_, _++_, map, flatten}
+use native.Mathlib.Omega.{arith}
 use lib.Dec.{eqb}
 use lib.IntN.{ℤ, pos, negℤ}
 use lib.ListN.{getD, take, drop, replicate}
 use Rattle.bits.specs.Parsed.{truncated}
-use Rattle.standard.specs.Numbers.{retainedHead}
+use Rattle.standard.specs.Numbers.{retainedHead, retainedLength, startLength, blocksLength, timingsLength, kindAt, xAt, zAt, markAt}
 use Rattle.standard.specs.Contexts as context
 use Rattle.standard.specs.Rows.{Picture, Row, defaultPicture, eqℤ, is}
 use Rattle.standard.specs.Tables.{rowsNumbers, rowsOf, countOf}
 use Rattle.standard.specs.Calls.{Lent, Done, over, decline, decode, timingCall}
 use Rattle.standard.specs.Journal.{freshTables, withRetained}
-use Rattle.standard.proofs.Writer.{_⊳_, bytes, dynamicOnly, said, block, timed, blocks, off, unity, place, first, restOne, movedOne, written}
+use Rattle.standard.specs.Events.{run}
+use Rattle.standard.proofs.MarkLaws.{none-differs}
+use Rattle.standard.proofs.MarksOnCalls.{FrameSettled}
+use Rattle.standard.proofs.Threaded.{no-gap-threaded}
+use Rattle.standard.proofs.FromZeros.{Lengths, zeros-begin}
+use Rattle.standard.proofs.cases.Writer.{_⊳_, bytes, dynamicOnly, said, block, timed, blocks, off, unity, place, first, restOne, movedOne, written}
 
 abbrev pub Decoder : Type 0
 Decoder = List ℕ → Lent → Done
@@ -77,7 +83,7 @@ idle s l = record { answer = decode s l .answer; lent = l }
 
 pub writes-nothing : Breaks idle restOne freshTables
 unfolding written idle
-writes-nothing = tells (blockIs 0 (pos 0)) refl refl
+writes-nothing = tells (blockIs kindAt (pos 0)) refl refl
 
 -- Decodes one payload and from then on repeats its rows: where rows are retained, they are the frame, whatever the payload says
 
@@ -103,7 +109,7 @@ first-is-true = refl
 -- the object was at (10, 20, 5), and the second payload moves it to (40, 50, 3)
 pub copies-the-first : Breaks copying (said 1 (blocks 1 ++ first unity (place 40 50 1 3))) (after movedOne)
 unfolding written copying
-copies-the-first = tells (blockIs 4 (pos 10)) refl refl
+copies-the-first = tells (blockIs xAt (pos 10)) refl refl
 
 -- Demand 3
 
@@ -128,13 +134,29 @@ pub changes-alone : changing (λ r. r) movedOne freshTables ≡ decode movedOne 
 unfolding written changing
 changes-alone = refl
 
+-- the mark rule, where there was no gap: beginning fresh, no row is unsettled, and none is counted
+abbrev pub KeepsMarks : Decoder → Type 0
+KeepsMarks f = (s : List ℕ) → FrameSettled (f s freshTables)
+
+-- decode keeps it
+pub decode-keeps-marks : KeepsMarks decode
+unfolding freshTables run
+decode-keeps-marks s = no-gap-threaded freshTables [] s (zeros-begin exact (record { retained = omega arith; start = omega arith; blocks = omega arith; timings = omega arith })) refl
+  where
+    exact : Lengths
+    exact = record { retained = retainedLength; start = startLength; blocks = blocksLength; timings = timingsLength }
+
 -- marks all unsettled
 unfoldable pub unsettling : Row → Row
 unsettling r = record { kind = r .kind; active = r .active; gain = r .gain; priority = r .priority; picture = r .picture; mark = pos 0 }
 
 pub marks-all-unsettled : Breaks (changing unsettling) restOne freshTables
 unfolding written changing unsettling
-marks-all-unsettled = tells (blockIs 14 (pos 0)) refl refl
+marks-all-unsettled = tells (blockIs markAt (pos 0)) refl refl
+
+pub unsettling-breaks-the-mark-rule : KeepsMarks (changing unsettling) → ⊥
+unfolding written changing unsettling
+unsettling-breaks-the-mark-rule h = none-differs (h restOne .blocks .rows .0)
 
 -- invents the unsettled count
 unfoldable pub inventing : Decoder
@@ -146,6 +168,10 @@ inventing s l =
 pub invents-the-count : Breaks inventing restOne freshTables
 unfolding written inventing
 invents-the-count = tells (λ d. eqb (d .answer .unsettled) 1) refl refl
+
+pub inventing-breaks-the-mark-rule : KeepsMarks inventing → ⊥
+unfolding written inventing
+inventing-breaks-the-mark-rule h = let e = h restOne .blocks .count in omega arith
 
 -- Document 01, "Easy errors in this trade"
 
@@ -175,7 +201,7 @@ mirrored r =
 
 pub takes-sign-1-as-negative : Breaks (changing mirrored) movedOne freshTables
 unfolding written changing mirrored
-takes-sign-1-as-negative = tells (blockIs 6 (negℤ (pos 5))) refl refl
+takes-sign-1-as-negative = tells (blockIs zAt (negℤ (pos 5))) refl refl
 
 -- rest loses the picture
 unfoldable pub cleared : Row → Row
@@ -184,7 +210,7 @@ cleared r =
 
 pub clears-the-picture : Breaks (changing cleared) restOne (after movedOne)
 unfolding written changing cleared
-clears-the-picture = tells (blockIs 4 (pos 31)) refl refl
+clears-the-picture = tells (blockIs xAt (pos 31)) refl refl
 
 -- a frame whose timings are refused is not retained
 unfoldable pub undoing : Decoder

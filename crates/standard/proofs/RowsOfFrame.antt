@@ -9,7 +9,7 @@ use Rattle.standard.specs.Tree.{Kind, Update, Object, Tree, kindsOf}
 use Rattle.standard.specs.Rows.{Row, State, noRow}
 use Rattle.standard.specs.Meaning.{updated, objectRows, allRows, gainOf, frameRows, lastRow, lastRows, startRows}
 use Rattle.standard.proofs.Small.{last-all}
-use Rattle.standard.proofs.FirstBlock.{FirstIn, ObjectForm, TreeForm}
+use Rattle.standard.proofs.FirstUpdates.{FirstIn, ObjectForm, TreeForm}
 
 -- an object has a block, and so a last row
 module _ (P : Row → Type 0) where

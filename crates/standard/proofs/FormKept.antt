@@ -11,9 +11,9 @@ use Rattle.standard.specs.Meaning.{updated, objectRows, allRows, gainOf,
 use Rattle.standard.specs.Tables.{gainForm, activeForm, fixedForm, rowForm, allForm}
 use Rattle.standard.proofs.Small.{and-left, and-right, both, number-is, Pairs}
 use Rattle.standard.proofs.Starts.{start-each}
-use Rattle.standard.proofs.Frames.{last-rows-have}
+use Rattle.standard.proofs.RowsOfFrame.{last-rows-have}
 use Rattle.standard.proofs.MarkLaws.{settled-form, doubted-form}
-use Rattle.standard.proofs.FirstBlock.{TreeForm}
+use Rattle.standard.proofs.FirstUpdates.{TreeForm}
 use Rattle.standard.proofs.Payload.{InTree}
 use Rattle.standard.proofs.Words.{UpdateOk, WordsOk}
 use Rattle.standard.proofs.Forms.{RowOk, ShownOk, shown-facts, facts-shown, row-shown, row-after, zero-form, default-form, code-form, default-fixed}

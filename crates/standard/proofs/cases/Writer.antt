@@ -6,9 +6,13 @@ use mathlib.Core.List.{List, [], _∷_, _++_, flatten}
 use lib.Dec.{eqb, leb}
 use lib.IntN.{ℤ, pos, negℤ}
 use lib.ListN.{length, replicate}
+use Rattle.standard.specs.Numbers.{rowWidth, silence}
+use Rattle.standard.specs.Tree.{dynamic, kindNumber}
+use Rattle.standard.specs.Rows.{Row}
 use Rattle.standard.specs.Computed.{computed}
 use Rattle.standard.specs.Journal.{Record, resetNotice}
-use Rattle.standard.specs.Cases.{Case, refuses, accepts, plainRow, headOfA, same, sameℤ, tablesAfter, answerNumbers, isCount, holds, allHold}
+use Rattle.standard.specs.Cases.{plainRow, inactiveRow, Case, refuses, accepts, headOfA}
+use Rattle.standard.specs.Cases as cases
 
 -- Bits and bytes
 
@@ -159,45 +163,68 @@ abbrev pub neg : ℕ → ℤ
 neg n = negℤ (pos n)
 
 -- a Dynamic: active, gain, priority; x, y, z; width, depth, height, screen, lock, zone, elevation; mark
-abbrev pub row : ℕ → ℤ → ℕ → ℕ → ℕ → ℤ → ℕ → ℕ → ℕ → ℕ → ℕ → ℕ → ℕ → ℕ → List ℤ
+abbrev pub row : ℕ → ℤ → ℕ → ℕ → ℕ → ℤ → ℕ → ℕ → ℕ → ℕ → ℕ → ℕ → ℕ → ℕ → Row
 row a g n x y z w d h s l c e m =
-    pos 3 ∷ pos a ∷ g ∷ pos n ∷ pos x ∷ pos y ∷ z ∷ pos w ∷ pos d ∷ pos h ∷ pos s ∷ pos l ∷ pos c ∷ pos e ∷ pos m ∷ []
+    record {
+      kind = kindNumber dynamic;
+      active = pos a;
+      gain = g;
+      priority = pos n;
+      picture = record {
+        position = record { x = pos x; y = pos y; z = z };
+        zone = record { zone = pos c; elevation = pos e };
+        size = record { width = pos w; depth = pos d; height = pos h };
+        screen = pos s;
+        lock = pos l;
+      };
+      mark = pos m;
+    }
 
 -- with a plain picture, active or not
-abbrev pub onRow : ℤ → ℕ → ℕ → ℕ → ℤ → ℕ → List ℤ
-onRow g n x y z m = row 1 g n x y z 0 0 0 0 0 0 1 m
 
-abbrev pub offRow : ℕ → ℕ → ℤ → ℕ → List ℤ
-offRow x y z m = row 0 (neg 128) 0 x y z 0 0 0 0 0 0 1 m
+abbrev pub onRow : ℤ → ℕ → ℕ → ℕ → ℤ → ℕ → Row
+onRow g n x y z m = plainRow (kindNumber dynamic) (pos 1) g (pos n) (pos x) (pos y) z (pos m)
+
+abbrev pub offRow : ℕ → ℕ → ℤ → ℕ → Row
+offRow x y z m = inactiveRow (pos x) (pos y) z (pos m)
 
 -- with a rich one
-abbrev pub richRow : ℕ → ℤ → ℕ → ℕ → ℕ → ℤ → ℕ → List ℤ
+abbrev pub richRow : ℕ → ℤ → ℕ → ℕ → ℕ → ℤ → ℕ → Row
 richRow a g n x y z m = row a g n x y z 9 9 9 1 1 5 0 m
 
 -- of any kind, with the default picture: the default row, and an inactive one
-abbrev pub defaultOf : ℕ → ℕ → List ℤ
+
+abbrev pub defaultOf : ℕ → ℕ → Row
 defaultOf k m = plainRow (pos k) (pos 1) (pos 0) (pos 32) (pos 31) (pos 31) (pos 0) (pos m)
 
-abbrev pub inactiveOf : ℕ → ℕ → List ℤ
-inactiveOf k m = plainRow (pos k) (pos 0) (neg 128) (pos 0) (pos 31) (pos 31) (pos 0) (pos m)
+abbrev pub inactiveOf : ℕ → ℕ → Row
+inactiveOf k m = plainRow (pos k) (pos 0) silence (pos 0) (pos 31) (pos 31) (pos 0) (pos m)
 
 -- Cases. Each begins with a reset: its tables are those of a fresh decoder, and computed once for all cases
 
 -- after these records: a payload; objects, blocks, unsettled; start rows; block rows; timings
-unfoldable pub gives : List Record → List ℕ → ℕ → ℕ → ℕ → List (List ℤ) → List (List ℤ) → List ℕ → Case
-gives rs s n b u start rows timings = accepts (resetNotice ∷ rs) s (n ∷ b ∷ u ∷ []) (flatten start) (flatten rows) timings
+unfoldable pub gives : List Record → List ℕ → ℕ → ℕ → ℕ → List Row → List Row → List ℕ → Case
+gives rs s n b u start rows timings = accepts (resetNotice ∷ rs) s n b u start rows timings
 
 -- all blocks at 0, no ramps
-unfoldable pub shows : List Record → List ℕ → ℕ → ℕ → ℕ → List (List ℤ) → List (List ℤ) → Case
+unfoldable pub shows : List Record → List ℕ → ℕ → ℕ → ℕ → List Row → List Row → Case
 shows rs s n b u start rows = gives rs s n b u start rows (replicate (2 * b) 0)
 
 -- a payload; number, context, place
 unfoldable pub fails : List ℕ → ℕ → ℕ → ℕ → Case
 fails s n c p = refuses (resetNotice ∷ []) s n c p
 
+-- how far cases look into each list: beyond the rows that they write, of 8 and of 32 objects or blocks
+
+abbrev pub far : ℕ
+far = 9 * rowWidth
+
+abbrev pub farther : ℕ
+farther = 33 * rowWidth
+
 -- Everything opened, for the tables of cases: `unfolding written`
 unfoldable pub written : Unit {0}
-unfolding computed same sameℤ tablesAfter answerNumbers isCount holds allHold flatten _⊳_ bytesFrom bytes filled sizeGroups element elements dynamicOnly said saidWithLfe block timed blocks off on kept unity silent level copied usual priority spot place to moved free locked plain rich groups first gives shows fails
+unfolding computed cases.computed flatten _⊳_ bytesFrom bytes filled sizeGroups element elements dynamicOnly said saidWithLfe block timed blocks off on kept unity silent level copied usual priority spot place to moved free locked plain rich groups first gives shows fails
 written = tt
 
 -- at rest it is document 01's A

@@ -1,0 +1,11 @@
+-- What is proved by computing: single payloads, tables and values.
+pub mod Bench
+pub mod Writer
+pub mod FurtherCases
+pub mod MarkCases
+pub mod ReadingCases
+pub mod ElementCases
+pub mod TableCases
+pub mod JournalCases
+pub mod ShownValues
+pub mod WrongDecoders

@@ -1,3 +1,4 @@
+pub mod cases
 pub mod Small
 pub mod Payload
 pub mod FirstUpdates
@@ -32,4 +33,3 @@ pub mod RampChoice
 pub mod RampTable
 pub mod JournalTurns
 pub mod JournalParts
-pub mod cases

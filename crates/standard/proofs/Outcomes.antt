@@ -20,16 +20,6 @@ use Rattle.standard.proofs.ReadBack.{blockRows, starts-count, blocks-co
 use Rattle.standard.proofs.Laid.{over-rest, rows-length, timings-length, state-length}
 use Rattle.standard.proofs.Endings.{Fit, ends}
 
--- the needed lengths of the frame tables are 0, and all else is as it was
-abbrev pub cleared : Lent → Lent
-cleared l =
-    record {
-      retained = l .retained;
-      start = over (replicate startLength (pos 0)) (l .start);
-      blocks = over (replicate blocksLength (pos 0)) (l .blocks);
-      timings = over (replicate timingsLength 0) (l .timings);
-    }
-
 -- 0: what lies behind the rows and timings of the frame, and behind the retained numbers, is as it was
 pub record Accepted (l : Lent) (d : Done) : Type 0 where
   pub verdict : d .answer .verdict ≡ alone accepted  -- context 0, place 0
@@ -38,16 +28,19 @@ pub record Accepted (l : Lent) (d : Done) : Type 0 where
   pub blocks : drop (d .answer .blocks * d .answer .objects * rowWidth) (d .lent .blocks) ≡ drop (d .answer .blocks * d .answer .objects * rowWidth) (l .blocks)
   pub timings : drop (2 * d .answer .blocks) (d .lent .timings) ≡ drop (2 * d .answer .blocks) (l .timings)
 
--- 1 to 4: a refusal of the payload
+-- 1 to 4: the payload is refused; the retained table stays, and the others are 0 as far as they are needed
 pub record Refused (s : List ℕ) (l : Lent) (d : Done) : Type 0 where
   pub answer : d .answer ≡ refusal (d .answer .verdict)  -- no objects, blocks or unsettled rows
   pub context-from : 1 ≤ d .answer .verdict .context
   pub context-to : d .answer .verdict .context ≤ contextCount
   pub place : d .answer .verdict .place ≤ length s * 8
   pub long : length s ≤ payloadLimit
-  pub lent : d .lent ≡ cleared l
+  pub retained : d .lent .retained ≡ l .retained
+  pub start : d .lent .start ≡ over (replicate startLength (pos 0)) (l .start)
+  pub blocks : d .lent .blocks ≡ over (replicate blocksLength (pos 0)) (l .blocks)
+  pub timings : d .lent .timings ≡ over (replicate timingsLength 0) (l .timings)
 
--- 5 to 7: a refusal before the payload is read
+-- 5 to 7: refused before the payload is read; nothing changes
 pub record Unread (l : Lent) (d : Done) : Type 0 where
   pub answer : d .answer ≡ refusal (alone (d .answer .verdict .number))  -- context 0, place 0
   pub lent : d .lent ≡ l
@@ -94,7 +87,10 @@ outcome s l =
         context-to = leb-true _ _ (and-right (leb 1 (r .context)) _ (b .context));
         place = b .place;
         long = h .size;
-        lent = refl;
+        retained = refl;
+        start = refl;
+        blocks = refl;
+        timings = refl;
       };
       unread = λ a. absurd (omega arith);
     })

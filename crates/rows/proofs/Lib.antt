@@ -1,4 +1,4 @@
--- Laws and the proofs that stand on several functions; callers cite KindLaws, Written, Puts, Rows, Tests, Keeping and Determined.
+-- Laws and the proofs that stand on several functions; callers cite KindLaws, Written, Puts, Rows, Tests, Keeping, Answers and Determined.
 pub mod KindLaws
 pub mod Lists
 pub mod Written

@@ -1,4 +1,4 @@
-// Every size of what is lent, and the numbers given back here, each named once.
+// Every size, column and range of what is lent, and the numbers given back here, each named once.
 pub const ROW_WIDTH: usize = 15;
 
 pub const OBJECT_LIMIT: usize = 128;

@@ -139,7 +139,7 @@ rampCall l blocks sample =
 
 -- A row of a table: its part, and what is shown of it
 
--- the fifteen numbers of row i
+-- the numbers of row i
 unfoldable pub rowPart : List ℤ → ℕ → List ℤ
 rowPart l i = take rowWidth (drop (i * rowWidth) l)
 

@@ -119,6 +119,8 @@ pictureForm p = every (pictureTests p)
 unfoldable pub markForm : ℤ → Bool
 markForm m = isFlag m
 
+-- equal in each number
+
 abbrev pub samePosition : Position → Position → Bool
 samePosition p q = every (eqℤ (p .x) (q .x) ∷ eqℤ (p .y) (q .y) ∷ eqℤ (p .z) (q .z) ∷ [])
 

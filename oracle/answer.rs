@@ -1,4 +1,4 @@
-//! One payload after another through the Rust decoder, answered in document 01's numbers.
+//! One payload after another through the Rust decoder, answered in the specification's numbers.
 
 use crate::oamd::{OamdDecoder, OamdFrame, OamdParseError};
 use crate::orders::{self, Order};
@@ -12,7 +12,7 @@ pub const LIMIT: u8 = 3;
 pub const UNSUPPORTED: u8 = 4;
 pub const SIZE: u8 = 7;
 
-/// Document 01's longest payload, in bytes. The Rust has no such limit.
+/// The specification's longest payload, in bytes. The Rust has no such limit.
 pub const LONGEST_PAYLOAD: usize = 16_384;
 
 #[derive(Clone, Copy, Debug, PartialEq, Eq)]

@@ -11,10 +11,10 @@ use crate::tables::MOST_BLOCKS;
 
 const DRAWN: usize = 500;
 
-/// Document 01's payload A.
+/// The specification's payload A.
 const A: [u8; 6] = [0x01, 0x04, 0x48, 0x00, 0x06, 0x00];
 
-/// Bench cases of document 01: bytes that a fresh decoder gets, with number, context and place.
+/// Bench cases of the specification: bytes that a fresh decoder gets, with number, context and place.
 const BENCH_CASES: [(&[u8], [u32; 3]); 11] = [
     (&[], [1, 1, 0]),
     (&[0x40], [4, 1, 0]),
@@ -42,7 +42,7 @@ pub fn sequences(seed: u64) -> Vec<Vec<Record>> {
     all
 }
 
-/// Alone, and after a gap notice and A, as in the journal of document 01.
+/// Alone, and after a gap notice and A, as in the journal of the specification.
 fn bench_cases() -> Vec<Vec<Record>> {
     let mut all = Vec::new();
     for (payload, said) in BENCH_CASES {
@@ -54,7 +54,7 @@ fn bench_cases() -> Vec<Vec<Record>> {
                 refusal.place as u32,
             ],
         };
-        assert_eq!(found, said, "the oracle answers as document 01 says");
+        assert_eq!(found, said, "the oracle answers as the specification says");
         let case = Record::Payload(payload.to_vec());
         let a = Record::Payload(A.to_vec());
         all.push(vec![Record::Reset, case.clone()]);

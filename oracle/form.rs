@@ -1,4 +1,4 @@
-//! Document 01's form of a retained table, and random tables that have it.
+//! The specification's form of a retained table, and random tables that have it.
 
 use crate::random::Random;
 use crate::row::{unmarked, Row};

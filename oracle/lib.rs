@@ -1,4 +1,4 @@
-//! The oracle as a library: the Rust decoder, answers in document 01's numbers, payloads to try.
+//! The oracle as a library: the Rust decoder, answers in the specification's numbers, payloads to try.
 
 // Three files are cut from the Rust source by oracle/build.
 #[allow(dead_code)]

@@ -1,4 +1,4 @@
-//! The Rust decoder with the model of marks beside it: what document 01 expects of each call.
+//! The Rust decoder with the model of marks beside it: what the specification expects of each call.
 
 use crate::answer::{orders_of, Frame, Oracle, Refusal, Row};
 use crate::form::rows_of;

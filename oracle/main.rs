@@ -10,7 +10,7 @@
 //!     retained NUMBER ..        a line for each row that is kept
 //!     gap                       nothing is done: the Rust knows no gap
 //!     reset
-//! and last `end RECORDS`, `torn OFFSET` or `mark OFFSET`. A row is document 01's row without
+//! and last `end RECORDS`, `torn OFFSET` or `mark OFFSET`. A row is the specification's row without
 //! its mark. A payload over 16,384 bytes is not decoded: `no 7 0 0`.
 //!
 //! `timing`: answers each line BLOCKS START RAMP .. SAMPLE of standard input by

@@ -1,9 +1,9 @@
-//! Document 01's "Marks and doubt" as a small model: the Rust decoder has no marks.
+//! The specification's "Marks and doubt" as a small model: the Rust decoder has no marks.
 
 use crate::orders::{Order, Position};
 use crate::tables::DYNAMIC;
 
-/// A wrong reading of document 01, for the test that a comparison with this model can fail.
+/// A wrong reading of the specification, for the test that a comparison with this model can fail.
 #[derive(Clone, Copy, Debug, PartialEq, Eq)]
 pub enum Mistake {
     DoubtIgnored,

@@ -1,4 +1,4 @@
-//! Document 01's place of a refusal, from what the noting decoder tried to read.
+//! The specification's place of a refusal, from what the noting decoder tried to read.
 
 use crate::answer::{INVALID, LIMIT, TRUNCATED, UNSUPPORTED};
 use crate::context as c;

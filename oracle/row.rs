@@ -83,7 +83,7 @@ pub fn kind_and_state(row: &Row) -> (OamdObjectKind, OamdObjectState) {
     (kind, state)
 }
 
-/// Document 01, "Floats": what a row's raw place is shown as.
+/// The specification, section 11, "Floats": what a row's raw place is shown as.
 fn shown_position(kind: OamdObjectKind, raw: [i16; 3]) -> [f32; 3] {
     if kind == OamdObjectKind::Lfe {
         return [-1.0, 1.0, -1.0];

@@ -1,4 +1,4 @@
-//! The lent tables: a row's columns and ranges, and document 01's lengths, which follow from the row's width.
+//! The lent tables: a row's columns and ranges, and the specification's lengths, which follow from the row's width.
 
 pub const ROW_WIDTH: usize = 15;
 pub const MOST_OBJECTS: usize = 128;

@@ -1,4 +1,4 @@
-"""Payloads, bit by bit, in document 01's reading order."""
+"""Payloads, bit by bit, in the specification's reading order."""
 
 
 class Bits:

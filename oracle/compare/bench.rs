@@ -71,7 +71,7 @@ impl Bench {
         Ok(expected)
     }
 
-    /// Document 01's table of numbers given back: what becomes of the lent tables.
+    /// The specification's table of numbers given back: what becomes of the lent tables.
     fn expect(&mut self, expected: &Expected) {
         let tables = &mut self.expected;
         match expected.said.number {

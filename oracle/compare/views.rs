@@ -193,7 +193,7 @@ fn used(timings: &[u16], blocks: u32) -> Result<&[[u16; 2]], u32> {
     pairs.get(..blocks as usize).ok_or(ROOM)
 }
 
-/// Document 01's walk: the Rust gives the fraction alone.
+/// The specification's walk: the Rust gives the fraction alone.
 fn elapsed_and_duration(timings: &[[u16; 2]], sample: u32) -> [u32; 2] {
     for &[start, ramp] in timings {
         let (start, ramp) = (u32::from(start), u32::from(ramp));

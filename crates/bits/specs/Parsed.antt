@@ -4,7 +4,7 @@ use mathlib.Core.Bool.{Bool, true, false, cond}
 use mathlib.Core.List.{List, [], _∷_}
 use mathlib.Core.Option.{Option, none, some}
 
--- document 01, "Numbers given back"
+-- the specification, section 4, "Numbers given back"
 pub record Refusal : Type 0 where
   pub number : ℕ
   pub context : ℕ

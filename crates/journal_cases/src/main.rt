@@ -31,7 +31,7 @@ fn endings() {
 
 fn doubts() {
     show(
-        b"the journal of document 01\n",
+        b"the journal of the specification\n",
         b"GPPL\x00\x06\x01\x04\x48\x00\x06\x00PL\x00\x00PL\x00",
     );
     show(

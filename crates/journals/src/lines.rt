@@ -16,7 +16,7 @@ use rows::numbers::ACCEPTED;
 // No line is longer: five numbers of 20 digits at most, five spaces, a word of two letters and the newline.
 pub const LINE_LENGTH: usize = 108;
 
-// Document 01's endings; and a fault, where the input could not be read on from this offset.
+// The specification's endings; in a fault the input could not be read on from this offset.
 pub enum Ending {
     Complete,
     Torn(u64),

@@ -16,7 +16,7 @@ pub const BLOCKS_LENT: usize = BLOCKS_LENGTH + BEHIND;
 
 pub const TIMINGS_LENT: usize = TIMINGS_LENGTH + BEHIND;
 
-// No call writes them: document 01's numbers are smaller.
+// No call writes them: the specification's numbers are smaller.
 pub const SENTINEL: i16 = 21845;
 
 pub const TIMINGS_SENTINEL: u16 = 43690;

@@ -17,7 +17,7 @@ use rows::numbers::RETAINED_HEAD;
 use rows::numbers::RETAINED_LENGTH;
 use rows::numbers::ROW_WIDTH;
 
-// The numbers of an answer, as document 01 gives them for each case.
+// The numbers of an answer, as the specification gives them for each case.
 struct Given {
     number: usize,
     context: usize,

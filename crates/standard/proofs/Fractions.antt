@@ -1,4 +1,4 @@
--- Document 01, "Ramps", the fraction of a choice: for any u16 timings it is under 1 while elapsed is under the ramp, and only then.
+-- The specification, section 10, "Timings and ramps", the fraction of a choice: for any u16 timings it is under 1 while elapsed is under the ramp, and only then.
 use Prim.Native.Nat.{ℕ, zero, suc, _*_, _+_, _-_, _^_, _≤_, _<_}
 use mathlib.Core.Path.{_≡_, refl}
 use mathlib.Core.Logic.{_⊎_, inl, inr}

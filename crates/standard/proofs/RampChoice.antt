@@ -1,4 +1,4 @@
--- Document 01, "Ramps", for timings that pass the test: the choice before the first start, inside a ramp, and past a ramp's end.
+-- The specification, section 10, "Timings and ramps", for timings that pass the test: the choice before the first start, inside a ramp, and past a ramp's end.
 use Prim.Native.Nat.{ℕ, suc, _+_, _-_, _≤_, _<_}
 use mathlib.Core.Path.{_≡_, refl, _∙_}
 use mathlib.Core.Logic.{_↔_}

@@ -1,4 +1,4 @@
--- Document 01, "Reading order", from the version to the program assignment: the kinds of a payload's objects.
+-- The specification, section 7, "Reading order", from the version to the program assignment: the kinds of a payload's objects.
 use Prim.Native.Nat.{ℕ, _+_, _-_, _/_}
 use mathlib.Core.Bool.{cond}
 use mathlib.Core.List.{List, [], _∷_, _++_}

@@ -1,4 +1,4 @@
--- Document 01, "Numbers given back": what each public call answers, and what it leaves in the lent lists.
+-- The specification, section 5, "Calls": what each public call answers, and what it leaves in the lent lists.
 use Prim.Native.Nat.{ℕ, _+_, _*_}
 use mathlib.Core.Bool.{Bool, cond, _&&_}
 use mathlib.Core.List.{List, [], _++_}

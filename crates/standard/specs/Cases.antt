@@ -1,4 +1,4 @@
--- Document 01, "Bench cases": what a case says, and the cases P1 to P11 as one table.
+-- The specification, section 13, "Bench cases": what a case says, and the cases P1 to P11 as one table.
 use Prim.Native.Nat.{ℕ, _+_, _*_, _-_}
 use mathlib.Core.Bool.{Bool, true, false, _&&_}
 use mathlib.Core.List.{List, [], _∷_, _++_}

@@ -1,4 +1,4 @@
--- The context numbers of refusals: document 01 numbers the strings of oamd.rs by first appearance (docs/CONTEXTS.md).
+-- The context numbers of refusals: the specification numbers the strings of oamd.rs by first appearance (docs/CONTEXTS.md).
 use Prim.Native.Nat.{ℕ}
 
 abbrev pub version : ℕ

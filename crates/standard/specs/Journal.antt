@@ -1,4 +1,4 @@
--- Document 01, "Journal", in three layers: the bytes are cut into records, each record has a reply, each reply is a line.
+-- The specification, section 12, "Journal", in three layers: the bytes are cut into records, each record has a reply, each reply is a line.
 use Prim.Native.Nat.{ℕ, zero, suc, _+_, _*_, _/_, _%_}
 use mathlib.Core.Bool.{true, false, cond, _&&_}
 use mathlib.Core.List.{List, [], _∷_, _++_}

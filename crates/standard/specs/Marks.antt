@@ -1,4 +1,4 @@
--- Document 01, "Marks and doubt": what settles a group of the picture, and what a mark says.
+-- The specification, section 9, "Marks and doubt": what settles a group of the picture, and what a mark says.
 use mathlib.Core.Bool.{Bool, true, false, cond, _&&_}
 use mathlib.Core.Option.{Option, none, some}
 use lib.IntN.{ℤ, pos}

@@ -1,4 +1,4 @@
--- What a payload does to the rows: document 01, "Reading order" of objects and blocks, and "Marks and doubt". It cannot refuse.
+-- What a payload does to the rows: the specification, sections 7 to 9. It cannot refuse.
 use Prim.Native.Nat.{ℕ, _+_}
 use mathlib.Core.Bool.{Bool, true, false, cond, _&&_}
 use mathlib.Core.List.{List, [], _∷_, map}

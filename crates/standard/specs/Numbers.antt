@@ -1,4 +1,4 @@
--- Every size, column, range and limit of document 01, and the numbers of its table that no reading gives, each named once.
+-- Every size, column, range and limit of the specification, and the numbers of its table that no reading gives, each named once.
 use Prim.Native.Nat.{ℕ, _+_, _*_}
 use lib.IntN.{ℤ, pos, negsuc}
 use Rattle.bits.specs.Parsed.{Refusal}

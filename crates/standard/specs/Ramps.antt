@@ -1,4 +1,4 @@
--- Document 01, "Ramps": between which rows a sample lies, and how far; whatever the timings are.
+-- The specification, section 10, "Timings and ramps": between which rows a sample lies, and how far; whatever the timings are.
 use Prim.Native.Nat.{ℕ, suc, _-_}
 use mathlib.Core.Bool.{cond, _||_}
 use mathlib.Core.List.{List, [], _∷_}

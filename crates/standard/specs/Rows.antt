@@ -1,4 +1,4 @@
--- Document 01, "Tables": a row, its picture and the picture's groups, and what is kept between payloads.
+-- The specification, section 3, "Tables": a row, its picture and the picture's groups, and what is kept between payloads.
 use Prim.Native.Nat.{ℕ}
 use mathlib.Core.Bool.{Bool, false}
 use mathlib.Core.List.{List, []}

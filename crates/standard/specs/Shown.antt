@@ -1,4 +1,4 @@
--- Document 01, "Floats": what is shown of a row.
+-- The specification, section 11, "Floats": what is shown of a row.
 use mathlib.Core.Bool.{cond}
 use lib.IntN.{ℤ}
 use lib.Ieee.{Float, binary32, ofInt}

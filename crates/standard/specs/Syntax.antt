@@ -1,4 +1,4 @@
--- Document 01, "Reading order", of the whole payload. It sees the payload alone.
+-- The specification, section 7, "Reading order", of the whole payload. It sees the payload alone.
 use Prim.Native.Nat.{ℕ, zero, suc, _+_, _*_, _-_}
 use mathlib.Core.Bool.{Bool, cond, not}
 use mathlib.Core.List.{List, [], _∷_}

@@ -1,4 +1,4 @@
--- Document 01, "Tables": how rows, timings and states lie in the lent tables, and the form of what is lent.
+-- The specification, section 3, "Tables": how rows, timings and states lie in the lent tables, and the form of what is lent.
 use Prim.Native.Nat.{ℕ, zero, suc, _*_, _-_}
 use mathlib.Core.Bool.{Bool, true, _&&_, _||_}
 use mathlib.Core.List.{List, [], _∷_, _++_, map}

@@ -1,4 +1,4 @@
--- Document 01, "Ramps": the timing test.
+-- The specification, section 10, "Timings and ramps": the timing test.
 use Prim.Native.Nat.{ℕ, _+_}
 use mathlib.Core.Bool.{Bool, true, cond, _&&_, _||_}
 use mathlib.Core.List.{List, [], _∷_}

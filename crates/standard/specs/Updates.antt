@@ -1,4 +1,4 @@
--- Document 01, "Reading order", of objects and blocks: what is said of one object in one block.
+-- The specification, section 7, "Reading order", of objects and blocks: what is said of one object in one block.
 use Prim.Native.Nat.{ℕ, min}
 use mathlib.Core.Bool.{Bool, true, false, cond}
 use mathlib.Core.List.{_∷_}

@@ -1,4 +1,4 @@
--- One pass does what the two layers do: each pass is what standard's meaning makes of standard's rule.
+-- One pass does what the two layers do: each pass is what the paper's meaning makes of the paper's rule.
 use Prim.Native.Nat.{ℕ}
 use mathlib.Core.Path.{_≡_, refl}
 use mathlib.Core.Bool.{Bool, true, false, cond, _&&_}

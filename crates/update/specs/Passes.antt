@@ -1,5 +1,5 @@
 -- Reading and applying at once, as the code does: a row goes in and comes out as the words read make it.
--- proofs/Bridge.antt shows that a pass is what standard's meaning makes of standard's rule.
+-- proofs/Bridge.antt shows that a pass is what the paper's meaning makes of the paper's rule.
 use Prim.Native.Nat.{ℕ}
 use mathlib.Core.Bool.{Bool, false, not, cond}
 use lib.Dec.{eqb}

@@ -1,4 +1,4 @@
--- Cases of document 01, "Reading order", from the element count on: sizes, order, the trim element and the three paddings.
+-- Cases of the specification, section 7, "Reading order", from the element count on: sizes, order, the trim element and the three paddings.
 use Prim.Native.Nat.{ℕ, _*_}
 use mathlib.Core.List.{List, [], _∷_, _++_, flatten}
 use lib.Dec.{T}

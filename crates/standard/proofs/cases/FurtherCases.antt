@@ -1,4 +1,4 @@
--- Cases of document 01, "Reading order", of an object in a block: position, the picture that is kept, basic and render information.
+-- Cases of the specification, section 7, "Reading order", of an object in a block: position, the picture that is kept, basic and render information.
 use Prim.Native.Nat.{ℕ}
 use mathlib.Core.List.{List, [], _∷_, _++_}
 use lib.Dec.{T}

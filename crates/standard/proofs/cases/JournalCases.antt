@@ -1,4 +1,4 @@
--- Document 01, "Journal": its worked journal and small ones, printed by computation.
+-- The specification, section 12, "Journal": its worked journal and small ones, printed by computation.
 use Prim.Native.Nat.{ℕ}
 use Prim.Native.String.{String}
 use Prim.Native.Char.{code}
@@ -17,7 +17,7 @@ ascii (String._∷_ c s) = code c ∷ ascii s
 abbrev pub Prints : List ℕ → String → Type 0
 Prints s text = printed s ≡ ascii text
 
--- the journal of document 01
+-- the journal of the specification
 pub worked : Prints (0x47 ∷ 0x50 ∷ 0x50 ∷ 0x4c ∷ 0x00 ∷ 0x06 ∷ 0x01 ∷ 0x04 ∷ 0x48 ∷ 0x00 ∷ 0x06 ∷ 0x00 ∷ 0x50 ∷ 0x4c ∷ 0x00 ∷ 0x00 ∷ 0x50 ∷ 0x4c ∷ 0x00 ∷ [])
     "1 0 gap\n2 2 ok 1 1 1\n3 12 no 1 1 0\ntorn 16\n"
 unfolding computed

@@ -1,4 +1,4 @@
--- Cases of document 01, "Marks and doubt", and of what stands between payloads: retained rows, changed kinds, reset.
+-- Cases of the specification, section 9, "Marks and doubt", and of what stands between payloads: retained rows, changed kinds, reset.
 use Prim.Native.Nat.{ℕ}
 use mathlib.Core.List.{List, [], _∷_, _++_}
 use lib.Dec.{T}

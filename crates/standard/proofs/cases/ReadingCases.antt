@@ -1,4 +1,4 @@
--- Cases of document 01, "Reading order": version and counts, program assignment, timings, table data.
+-- Cases of the specification, section 7, "Reading order": version and counts, program assignment, timings, table data.
 use Prim.Native.Nat.{ℕ, _-_}
 use mathlib.Core.List.{List, [], _∷_, _++_, map, flatten}
 use lib.Dec.{T}

@@ -1,4 +1,4 @@
--- Values of document 01, "Floats", computed.
+-- Values of the specification, section 11, "Floats", computed.
 use mathlib.Core.Path.{_≡_, refl}
 use mathlib.Core.Bool.{false}
 use mathlib.Core.List.{List, [], _∷_, map}

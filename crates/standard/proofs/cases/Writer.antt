@@ -1,4 +1,4 @@
--- A writer of payloads, fields as width and value, and short names for rows: so that a case reads like its sentence in document 01.
+-- A writer of payloads, fields as width and value, and short names for rows: so that a case reads like its sentence in the specification.
 use Prim.Native.Nat.{ℕ, zero, suc, _+_, _*_, _-_, _/_, _%_, _^_}
 use mathlib.Core.Path.{_≡_, refl}
 use mathlib.Core.Bool.{true, false, cond}
@@ -227,7 +227,7 @@ unfoldable pub written : Unit {0}
 unfolding computed cases.computed flatten _⊳_ bytesFrom bytes filled sizeGroups element elements dynamicOnly said saidWithLfe block timed blocks off on kept unity silent level copied usual priority spot place to moved free locked plain rich groups first gives shows fails
 written = tt
 
--- at rest it is document 01's A
+-- at rest it is payload A
 pub rest-is-A : restOne ≡ headOfA ++ 0x00 ∷ []
 unfolding written
 rest-is-A = refl

@@ -1,4 +1,4 @@
--- Wrong decoders, each shown to break the promise of decode on a payload: those that document 01 names under demands 2 and 3, and its easy errors.
+-- Wrong decoders, each shown to break the promise of decode on a payload: those that the specification names under demands 2 and 3, and its easy errors.
 use Prim.Native.Nat.{ℕ, _+_, _*_}
 use mathlib.Core.Path.{_≡_, refl, sym, _∙_, ap}
 use mathlib.Core.Logic.{_≢_}
@@ -173,7 +173,7 @@ pub inventing-breaks-the-mark-rule : KeepsMarks inventing → ⊥
 unfolding written inventing
 inventing-breaks-the-mark-rule h = let e = h restOne .blocks .count in omega arith
 
--- Document 01, "Easy errors in this trade"
+-- The specification, section 16, "Easy errors"
 
 -- a second size group that is cut passes for Truncated
 unfoldable pub truncating : Decoder

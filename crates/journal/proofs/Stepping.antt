@@ -1,18 +1,17 @@
 -- What the program does in a turn is a step of a run, or its end.
 use Prim.Native.Nat.{ℕ, _+_, _≤_}
-use mathlib.Core.Path.{_≡_, refl, sym, _∙_, ap}
-use mathlib.Core.Bool.{true}
+use mathlib.Core.Path.{_≡_, refl, ap}
 use mathlib.Core.List.{List, [], _∷_, _++_, append-assoc}
 use native.Mathlib.Omega.{arith}
 use lib.ListN.{length, take}
 use Rattle.standard.specs.Calls.{Lent}
 use Rattle.standard.specs.Journal.{step}
 use Rattle.journals.specs.Buffers.{part, Kept}
-use Rattle.journals.specs.Texts.{lineLength, Puts, endingText}
+use Rattle.journals.specs.Texts.{lineLength}
 use Rattle.journals.specs.Turns.{turnOn}
 use Rattle.journals.specs.Prints.{PrintLeft}
 use Rattle.journals.specs.Runs as runs
-use Rattle.journals.specs.Runs.{Standing, counted, Called, Closed, Goes, leftOver}
+use Rattle.journals.specs.Runs.{Standing, counted, Called, leftOver}
 use Rattle.journals.specs.declared.lines.Ending.{Ending}
 use Rattle.journals.specs.declared.lines.Ending.the-variants as ending
 use Rattle.journals.specs.declared.prints.Printed.{Printed}

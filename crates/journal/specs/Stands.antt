@@ -1,7 +1,7 @@
 -- Where the program can stand in its input buffer, and what a read leaves there.
 use Prim.Native.Nat.{ℕ, _+_, _≤_}
 use mathlib.Core.Path.{_≡_}
-use mathlib.Core.Bool.{true, false}
+use mathlib.Core.Bool.{false}
 use mathlib.Core.List.{List}
 use lib.ListN.{take}
 use Rattle.journals.specs.Runs.{counted}

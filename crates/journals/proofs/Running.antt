@@ -1,5 +1,5 @@
 -- A program that calls print_next and put_last in turn prints the journal, however it arrives.
-use Prim.Native.Nat.{ℕ, suc, _+_, _%_, _^_, _≤_, _<_}
+use Prim.Native.Nat.{ℕ, suc, _+_, _^_, _≤_, _<_}
 use mathlib.Core.Path.{_≡_, refl, sym, _∙_, ap}
 use mathlib.Core.List.{List, [], _∷_, _++_, append-nil, append-assoc}
 use native.Mathlib.Nat.{mod-eq-of-lt}
@@ -7,7 +7,7 @@ use native.Mathlib.Omega.{arith}
 use lib.ListN.{length, take, drop, length-append, length-drop}
 use lib.Seq.{take-append-seam}
 use Rattle.standard.specs.Calls.{Lent}
-use Rattle.standard.specs.Journal.{Record, Step, whole, more, unknown, step, rest, badMark, entered, journalFrom, journal, replyTo, line, lastLine, linesFrom, printed}
+use Rattle.standard.specs.Journal.{Record, Step, whole, more, unknown, step, rest, badMark, journalFrom, journal, replyTo, line, lastLine, linesFrom, printed}
 use Rattle.standard.proofs.JournalCases.{turns-suffice}
 use Rattle.standard.proofs.JournalParts.{whole-stays, unknown-stays, whole-sized, whole-within, after-whole}
 use Rattle.rows.specs.Places.{written}

@@ -6,6 +6,7 @@ pub mod MarkCases
 pub mod ReadingCases
 pub mod ElementCases
 pub mod TableCases
+pub mod RampCases
 pub mod JournalCases
 pub mod ShownValues
 pub mod WrongDecoders

@@ -5,7 +5,8 @@ use Prim.Native.Char.{code}
 use mathlib.Core.Path.{_≡_, refl}
 use mathlib.Core.List.{List, [], _∷_}
 use Rattle.standard.specs.Computed.{computed}
-use Rattle.standard.specs.Journal.{printed}
+use Rattle.standard.specs.Journal.{payload, gapNotice, resetNotice, complete, printed}
+use Rattle.standard.specs.JournalParts.{journalOfParts}
 
 -- Printed
 
@@ -52,3 +53,12 @@ pub gap-and-reset : Prints (0x47 ∷ 0x50 ∷ 0x52 ∷ 0x53 ∷ 0x50 ∷ 0x4c �
     "1 0 gap\n2 2 reset\n3 4 ok 1 1 0\nend 3\n"
 unfolding computed
 gap-and-reset = refl
+
+-- In parts, divided within a mark and within a length: a gap, a payload of one byte, a reset
+pub divided : journalOfParts ((0x47 ∷ []) ∷ (0x50 ∷ 0x50 ∷ 0x4c ∷ 0x00 ∷ []) ∷ (0x01 ∷ 0x40 ∷ 0x52 ∷ 0x53 ∷ []) ∷ [])
+    ≡ record {
+      entries = record { what = gapNotice; offset = 0 } ∷ record { what = payload (0x40 ∷ []); offset = 2 } ∷ record { what = resetNotice; offset = 7 } ∷ [];
+      ending = complete;
+    }
+unfolding computed
+divided = refl

@@ -20,6 +20,8 @@ use bits::BitPlace;
 use bits::Flag;
 use bits::Number;
 use bits::is_set;
+use rows::numbers::HIGHEST_GAIN;
+use rows::numbers::PRIORITY_LIMIT;
 use rows::numbers::SILENCE;
 use rows::row::Row;
 
@@ -101,12 +103,17 @@ fn parse_gain(
     }
 }
 
+// No word says 0 dB.
 fn gain_db(word: u32) -> i16
     requires { ⌜ word < 64 ⌝ }
     ensures { λ r. ⌜ r ≡ decibels word ⌝ }
 {
     let number = word as i16;
-    if word <= 14 { 15 - number } else { 14 - number }
+    if word < HIGHEST_GAIN as u32 {
+        HIGHEST_GAIN - number
+    } else {
+        HIGHEST_GAIN - 1 - number
+    }
 }
 
 // Silence is copied as 0 dB.
@@ -127,11 +134,14 @@ fn parse_priority(payload: &[u8], limit: BitPlace, at: BitPlace, flags: u32, row
         Flag::Refused(refusal) => Updated::Refused(refusal),
         Flag::Is(default, at) => {
             if default {
-                return Updated::Row(at, with_priority(row, 32));
+                return Updated::Row(at, with_priority(row, PRIORITY_LIMIT));
             }
             match bits::read(payload, limit, at, 5, OBJECT_PRIORITY) {
                 Number::Refused(refusal) => Updated::Refused(refusal),
-                Number::Value(priority, at) => Updated::Row(at, with_priority(row, priority)),
+                Number::Value(priority, at) => Updated::Row(
+                    at,
+                    with_priority(row, priority as i16),
+                ),
             }
         }
     }

@@ -1,9 +1,10 @@
 // The position of an object, absolute or by steps.
 ghost use mathlib.Core.Path.{_≡_};
 ghost use mathlib.Core.Bool.{cond};
-ghost use Prim.Native.Nat.{_<_, min};
+ghost use Prim.Native.Nat.{_≤_, min};
 ghost use lib.IntN.{pos, negℤ, _+ℤ_};
 ghost use Rattle.bits.specs.Say.{saidFlag, saidPassed};
+ghost use Rattle.standard.specs.Numbers.{sideLimit, heightLimit};
 ghost use Rattle.standard.specs.Updates as standard;
 ghost use Rattle.standard.specs.Meaning as meaning;
 ghost use Rattle.rows.specs.Say.{positionSaid, rowSaid};
@@ -29,6 +30,8 @@ use bits::Number;
 use bits::Passed;
 use bits::Signed;
 use bits::is_set;
+use rows::numbers::HEIGHT_LIMIT;
+use rows::numbers::SIDE_LIMIT;
 use rows::row::Position;
 use rows::row::Row;
 
@@ -91,9 +94,9 @@ fn stepped(old: Position, steps: Position) -> Position
     ensures { λ r. ⌜ positionSaid r ≡ meaning.stepped (positionSaid steps) (positionSaid old) ⌝ }
 {
     Position {
-        x: step(old.x, steps.x, 0, 62),
-        y: step(old.y, steps.y, 0, 62),
-        z: step(old.z, steps.z, -15, 15),
+        x: step(old.x, steps.x, 0, SIDE_LIMIT),
+        y: step(old.y, steps.y, 0, SIDE_LIMIT),
+        z: step(old.z, steps.z, -HEIGHT_LIMIT, HEIGHT_LIMIT),
     }
 }
 
@@ -137,13 +140,17 @@ fn parse_absolute(payload: &[u8], limit: BitPlace, at: BitPlace, row: Row) -> Up
 }
 
 fn coordinate(word: u32) -> i16
-    ensures { λ r. ⌜ r ≡ pos (min word 62) ⌝ }
+    ensures { λ r. ⌜ r ≡ pos (min word sideLimit) ⌝ }
 {
-    if word < 62 { word as i16 } else { 62 }
+    if word < SIDE_LIMIT as u32 {
+        word as i16
+    } else {
+        SIDE_LIMIT
+    }
 }
 
 fn height(positive: bool, word: u32) -> i16
-    requires { ⌜ word < 16 ⌝ }
+    requires { ⌜ word ≤ heightLimit ⌝ }
     ensures { λ r. ⌜ r ≡ cond positive (pos word) (negℤ (pos word)) ⌝ }
 {
     let number = word as i16;

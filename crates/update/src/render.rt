@@ -31,6 +31,7 @@ use bits::Number;
 use bits::Refusal;
 use bits::is_set;
 use rows::numbers::SETTLED;
+use rows::numbers::ZONE_LIMIT;
 use rows::row::Row;
 use rows::row::default_picture;
 
@@ -116,7 +117,7 @@ fn parse_zone(payload: &[u8], limit: BitPlace, at: BitPlace, flags: u32, row: Ro
     match bits::read(payload, limit, at, 3, ZONE_CONSTRAINTS_INDEX) {
         Number::Refused(refusal) => Updated::Refused(refusal),
         Number::Value(zone, next) => {
-            if zone > 5 {
+            if zone > ZONE_LIMIT as u32 {
                 return Updated::Refused(Refusal::invalid(ZONE_CONSTRAINTS_INDEX, at));
             }
             match bits::read_flag(payload, limit, next, ELEVATION_ENABLED_FLAG) {

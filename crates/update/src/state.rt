@@ -1,7 +1,7 @@
 // A row with one part anew.
 ghost use mathlib.Core.Path.{_≡_};
-ghost use Prim.Native.Nat.{_≤_, _<_};
-ghost use lib.IntN.{pos};
+ghost use Prim.Native.Nat.{_≤_};
+ghost use Rattle.standard.specs.Numbers.{sizeLimit, zoneLimit};
 ghost use Rattle.standard.specs.Updates.{bit, sized};
 ghost use Rattle.rows.specs.Kinds.{kindOf};
 ghost use Rattle.rows.specs.Say.{positionSaid, rowSaid};
@@ -50,11 +50,10 @@ pub fn with_gain(mut row: Row, gain: i16) -> Row
     row
 }
 
-pub fn with_priority(mut row: Row, priority: u32) -> Row
-    requires { ⌜ priority ≤ 32 ⌝ }
-    ensures { λ r. ⌜ rowSaid r ≡ pass.withPriority (pos priority) (rowSaid row) ⌝ }
+pub fn with_priority(mut row: Row, priority: i16) -> Row
+    ensures { λ r. ⌜ rowSaid r ≡ pass.withPriority priority (rowSaid row) ⌝ }
 {
-    row.priority = priority as i16;
+    row.priority = priority;
     row
 }
 
@@ -68,7 +67,7 @@ pub fn with_position(mut row: Row, position: Position) -> Row
 }
 
 pub fn with_zone(mut row: Row, zone: u32, elevated: bool) -> Row
-    requires { ⌜ zone < 8 ⌝ }
+    requires { ⌜ zone ≤ zoneLimit ⌝ }
     ensures { λ r. ⌜ rowSaid r ≡ pass.withZone (pass.zoned zone elevated) (rowSaid row) ⌝ }
 {
     let zone = Zone {
@@ -82,7 +81,7 @@ pub fn with_zone(mut row: Row, zone: u32, elevated: bool) -> Row
 }
 
 pub fn with_size(mut row: Row, width: u32, depth: u32, height: u32) -> Row
-    requires { ⌜ (width < 32) × (depth < 32) × (height < 32) ⌝ }
+    requires { ⌜ (width ≤ sizeLimit) × (depth ≤ sizeLimit) × (height ≤ sizeLimit) ⌝ }
     ensures { λ r. ⌜ rowSaid r ≡ pass.withSize (sized width depth height) (rowSaid row) ⌝ }
 {
     let size = Size {

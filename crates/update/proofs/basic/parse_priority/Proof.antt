@@ -1,4 +1,5 @@
 -- `update::basic::parse_priority` meets its contract.
+use Prim.Native.Nat.{_^_, _<_}
 use mathlib.Core.Bool.{true}
 use mathlib.Core.Path.{_≡_}
 use native.Mathlib.Omega.{arith}
@@ -9,7 +10,7 @@ use Rattle.bits.specs.Say.{said}
 use Rattle.bits.proofs.Laws.{gives, read-lt}
 use Rattle.standard.specs.Updates.{priorityWord}
 use Rattle.update.specs.Passes.{priorityPass}
-use Rattle.update.proofs.Numbers.{unset, set}
+use Rattle.update.proofs.Numbers.{up, unset, set}
 use Rattle.update.proofs.basic.parse_priority.Statement.{statement}
 use Rattle.update.proofs.basic.parse_priority.Tie as tie
 
@@ -22,8 +23,8 @@ returns-2 c =
     let default = c .before .before .before in
     rw (c .with-priority .ensures, asked (default .before .before .before), ← (default .before .before .read-flag .ensures), default .default .given .1, c .before .if2 .taken)
 
-with-priority-requires-2 : tie.Need-with-priority-requires-2
-with-priority-requires-2 c κs = omega (arith, gives said (read-lt _ _) (c .before .before .before .read .ensures) (c .before .priority .given .1))
+small : (c : tie.After-priority) → c .priority .given .0 .0 < 2 ^ 5
+small c = gives said (read-lt _ _) (c .before .before .read .ensures) (c .priority .given .1)
 
 returns-4 : tie.Need-returns-4
 unfolding priorityPass priorityWord _>>=_ mapP pure
@@ -45,6 +46,7 @@ returns-5 c =
     let default = priority .before .before .before .before .before in
     rw (
       c .with-priority2 .ensures,
+      up (priority .priority .given .0 .0) (omega (arith, small priority)),
       asked (default .before .before .before),
       ← (default .before .before .read-flag .ensures),
       default .default .given .1,
@@ -60,6 +62,6 @@ parse-priority-spec =
     (tie.spec
     (λ c κs. search needs) (λ c. rw (unset (c .before .is-set .ensures) (c .if1 .taken))) (λ c κs. search needs)
     (λ c. search needs) (λ c. search needs) (λ c κs. search needs) returns-2 (λ c κs. search needs) (λ c. search needs)
-    (λ c. search needs) with-priority-requires-2
+    (λ c. search needs) (λ c. search (needs, small (c .before))) (λ c κs. search needs)
     (λ c. rw (asked (c .before .before .before .before), ← (c .before .before .before .read-flag .ensures), c .before .refusal .given .1))
     returns-4 returns-5)

@@ -9,4 +9,4 @@ use Rattle.update.proofs.position.coordinate.Tie as tie
 
 pub coordinate-spec : {M : Type 1} → statement M
 coordinate-spec =
-    tie.close (tie.spec (λ c. search needs) (λ c. rw (up (c .before .args .word) (omega arith)) (ap pos (omega arith))) (λ c. ap pos (omega arith)))
+    tie.close (tie.spec (λ c. search needs) (λ c. search needs) (λ c. rw (up (c .before .args .word) (omega arith)) (ap pos (omega arith))) (λ c. ap pos (omega arith)))

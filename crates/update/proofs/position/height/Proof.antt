@@ -1,5 +1,5 @@
 -- `update::position::height` meets its contract.
-use Prim.Native.Nat.{ℕ, zero, suc, _<_}
+use Prim.Native.Nat.{ℕ, zero, suc, _≤_}
 use mathlib.Core.Path.{_≡_}
 use native.Mathlib.Omega.{arith}
 use borrow.Author.Needs.{needs}
@@ -7,14 +7,15 @@ use lib.IntN.{pos, negℤ, _-ℤ_, +ℤ-idl}
 use mir.Syntax.{w16}
 use mir.Val.{SFits, toZ}
 use mir.Facts.{toZ-ofZ}
+use Rattle.standard.specs.Numbers.{heightLimit}
 use Rattle.update.proofs.Numbers.{up}
 use Rattle.update.proofs.position.height.Statement.{statement}
 use Rattle.update.proofs.position.height.Tie as tie
 
-below : (n : ℕ) → n < 16 → pos 0 -ℤ toZ w16 n ≡ negℤ (pos n)
+below : (n : ℕ) → n ≤ heightLimit → pos 0 -ℤ toZ w16 n ≡ negℤ (pos n)
 below n h = rw (up n (omega arith)) (+ℤ-idl (negℤ (pos n)))
 
-fits : (n : ℕ) → n < 16 → SFits w16 (negℤ (pos n))
+fits : (n : ℕ) → n ≤ heightLimit → SFits w16 (negℤ (pos n))
 fits zero h = record { sfits = omega arith }
 fits (suc n) h = record { sfits = omega arith }
 

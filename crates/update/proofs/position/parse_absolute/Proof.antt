@@ -1,4 +1,5 @@
 -- `update::position::parse_absolute` meets its contract.
+use native.Mathlib.Omega.{arith}
 use borrow.Author.Needs.{needs}
 use Rattle.bits.specs.Parsed.{_>>=_, pure}
 use Rattle.bits.specs.Say.{said}
@@ -11,7 +12,7 @@ use Rattle.update.proofs.position.parse_absolute.Statement.{statement}
 use Rattle.update.proofs.position.parse_absolute.Tie as tie
 
 height-requires : tie.Need-height-requires
-height-requires c κs = gives said (read-lt _ _) (c .before .before .before .before .before .read3 .ensures) (c .before .before .before .z .given .1)
+height-requires c κs = omega (arith, gives said (read-lt _ _) (c .before .before .before .before .before .read3 .ensures) (c .before .before .before .z .given .1))
 
 returns-2 : tie.Need-returns-2
 unfolding placePass absolutely positionSaid _>>=_ pure

@@ -29,4 +29,4 @@ returns c =
     )
 
 pub stepped-spec : {M : Type 1} → statement M
-stepped-spec = tie.close (tie.spec (λ c κs. search needs) (λ c κs. search needs) (λ c κs. search needs) returns)
+stepped-spec = tie.close (tie.spec (λ c κs. search needs) (λ c κs. search needs) (λ c. search needs) (λ c κs. search needs) returns)

@@ -20,7 +20,7 @@ asked c = set (c .before .is-set .ensures) (c .if1 .left)
 with-size-requires-2 : tie.Need-with-size-requires-2
 with-size-requires-2 c κs =
     let l = gives said (read-lt _ _) (c .before .before .before .read2 .ensures) (c .before .size .given .1) in
-    (l, l, l)
+    (omega arith, omega arith, omega arith)
 
 returns-3 : tie.Need-returns-3
 unfolding sizePass sizeWord sizesPass _>>=_ mapP pure here refuse

@@ -1,4 +1,5 @@
 -- `update::render::parse_sizes` meets its contract.
+use native.Mathlib.Omega.{arith}
 use borrow.Author.Needs.{needs}
 use Rattle.bits.specs.Parsed.{_>>=_, mapP, pure}
 use Rattle.bits.specs.Say.{said}
@@ -12,9 +13,9 @@ with-size-requires c κs =
     let height = c .before in
     let depth = height .before .before .before .before in
     let width = depth .before .before .before .before in (
-      gives said (read-lt _ _) (width .before .before .read .ensures) (width .width .given .1),
-      gives said (read-lt _ _) (depth .before .before .read2 .ensures) (depth .depth .given .1),
-      gives said (read-lt _ _) (height .before .before .read3 .ensures) (height .height .given .1),
+      omega (arith, gives said (read-lt _ _) (width .before .before .read .ensures) (width .width .given .1)),
+      omega (arith, gives said (read-lt _ _) (depth .before .before .read2 .ensures) (depth .depth .given .1)),
+      omega (arith, gives said (read-lt _ _) (height .before .before .read3 .ensures) (height .height .given .1)),
     )
 
 returns-2 : tie.Need-returns-2

@@ -55,7 +55,7 @@ parse-zone-spec =
     (tie.spec
     (λ c κs. search needs) (λ c κs. search needs)
     (λ c. rw (c .unsettle .ensures, unset (c .before .before .is-set .ensures) (c .before .if1 .taken))) (λ c κs. search needs)
-    (λ c. search needs) (λ c. search needs) (λ c κs. search needs) returns-2 (λ c κs. search needs) (λ c. search needs)
+    (λ c. search needs) (λ c. search needs) (λ c. search needs) (λ c κs. search needs) returns-2 (λ c κs. search needs) (λ c. search needs)
     (λ c. search needs) (λ c κs. search needs)
     (λ c. rw (asked (c .before .before .before .before), ← (c .before .before .before .read .ensures), c .before .refusal .given .1))
     returns-4 returns-5)

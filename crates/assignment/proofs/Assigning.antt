@@ -5,17 +5,18 @@ use mathlib.Core.List.{List, map}
 use native.Mathlib.Omega.{arith}
 use borrow.Author.Tests.{eq-eqb, ne-eqb}
 use lib.Dec.{eqb}
+use lib.IntN.{ℤ}
 use lib.ListN.{length, take, drop, length-map}
 use lib.Seq.{sets, sets-eq, length-sets, take-at}
 use Rattle.bits.specs.Parsed.{Refusal, Parsed, got, refused, Parser, andThen, _>>_, pure, refuse, require}
 use Rattle.bits.proofs.ParsedLaws.{Made, made-got, made-refused}
-use Rattle.standard.specs.Tree.{Kind, kindCode}
+use Rattle.standard.specs.Tree.{Kind, kindNumber}
 use Rattle.assignment.specs.Kinds.{Table, holding, extend, onto, Assigned}
 use Rattle.assignment.proofs.Filling.{counted, extend-count, extend-codes}
 
 -- the kinds that were read onto a table
 abbrev pub Read : Table → Parsed (List Kind) → Table → ℕ → Type 0
-Read t = Made (λ ks. extend (map kindCode ks) t)
+Read t = Made (λ ks. extend (map kindNumber ks) t)
 
 pub read-kinds : (t : Table) (m : Parsed (List Kind)) {t′ : Table} {q : ℕ} → got t′ q ≡ onto t m → Read t m t′ q
 unfolding onto
@@ -25,8 +26,8 @@ pub read-none : (t : Table) (m : Parsed (List Kind)) {r : Refusal} → refused r
 unfolding onto
 read-none t m h = made-refused _ m h
 
-pub read-count : (t : Table) {m : Parsed (List Kind)} {n : ℕ} {l : List ℕ} {q : ℕ} (a : Read t m (holding n l) q) → n ≡ t .count + length (a .value)
-read-count t a = omega (arith, counted (a .made), extend-count (map kindCode (a .value)) t, length-map (a .value) kindCode)
+pub read-count : (t : Table) {m : Parsed (List Kind)} {n : ℕ} {l : List ℤ} {q : ℕ} (a : Read t m (holding n l) q) → n ≡ t .count + length (a .value)
+read-count t a = omega (arith, counted (a .made), extend-count (map kindNumber (a .value)) t, length-map (a .value) kindNumber)
 
 -- The count is tested last
 
@@ -42,25 +43,25 @@ module _ {n : ℕ} (r : Refusal) (s : List ℕ) (e : ℕ) {m : Parsed (List Kind
   unfolding require _>>_ refuse
   wrong-count c = rw (h, ne-eqb (length ks) n c)
 
--- the codes stand at the table's start
-begins : (xs l : List ℕ) → length xs ≤ length l → take (length xs) (sets l 0 xs) ≡ xs
+-- the numbers stand at the table's start
+begins : (xs l : List ℤ) → length xs ≤ length l → take (length xs) (sets l 0 xs) ≡ xs
 begins xs l h = rw (sets-eq xs l 0 (omega arith)) (take-at xs (drop (0 + length xs) l) (length xs) refl)
 
-module _ (n : ℕ) (before after : List ℕ) where
+module _ (n : ℕ) (before after : List ℤ) where
   pub none-assigned : {m : Parsed (List Kind)} {r : Refusal} → m ≡ refused r → length after ≡ length before → Assigned m n (refused r) before after
   none-assigned {m} h l =
       let never : (ks : List Kind) (q : ℕ) → m ≡ got ks q → ⊥ = λ ks q e. let z : _≡_ {A = ℕ} 0 1 = cc in omega arith in
       record { answered = rw h; long = l; count = λ ks q e. absurd (never ks q e); codes = λ ks q e. absurd (never ks q e) }
 
   pub all-assigned : {m : Parsed (List Kind)} {q : ℕ} (n′ : ℕ) (ks : List Kind) → m ≡ got ks q → length ks ≡ n → n ≤ length before →
-      holding n′ after ≡ extend (map kindCode ks) (holding 0 before) → Assigned m n (got tt q) before after
+      holding n′ after ≡ extend (map kindNumber ks) (holding 0 before) → Assigned m n (got tt q) before after
   all-assigned {m} n′ ks h e l f =
-      let a : after ≡ sets before 0 (map kindCode ks) = ap (λ (t : Table). t .codes) f ∙ extend-codes (map kindCode ks) (holding 0 before) in
+      let a : after ≡ sets before 0 (map kindNumber ks) = ap (λ (t : Table). t .codes) f ∙ extend-codes (map kindNumber ks) (holding 0 before) in
       let same : (ks′ : List Kind) (q : ℕ) → m ≡ got ks′ q → ks ≡ ks′ = λ ks′ q g. cc in
-      let k : n ≡ length (map kindCode ks) = omega (arith, length-map ks kindCode) in
+      let k : n ≡ length (map kindNumber ks) = omega (arith, length-map ks kindNumber) in
       record {
         answered = rw h;
-        long = rw a (length-sets before 0 (map kindCode ks));
+        long = rw a (length-sets before 0 (map kindNumber ks));
         count = λ ks′ q g. rw (← same ks′ q g) e;
-        codes = λ ks′ q g. rw (← same ks′ q g, a, k) (begins (map kindCode ks) before (omega arith));
+        codes = λ ks′ q g. rw (← same ks′ q g, a, k) (begins (map kindNumber ks) before (omega arith));
       }

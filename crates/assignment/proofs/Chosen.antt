@@ -5,20 +5,21 @@ use mathlib.Core.Bool.{Bool, true, false, cond}
 use mathlib.Core.List.{List, [], map, map-append}
 use native.Mathlib.Nat.{pow-suc, div-one, div-div-eq-div-mul}
 use native.Mathlib.Numerals.{add-one}
+use lib.IntN.{ℤ}
 use lib.ListN.{length, getD, drop, replicate, drop-of-length-le}
 use lib.Seq.{drop-cons}
 use Rattle.bits.specs.Bits.{isSet}
-use Rattle.standard.specs.Tree.{Kind, kindCode}
+use Rattle.standard.specs.Tree.{Kind, kindNumber}
 use Rattle.standard.specs.Assignment.{chosen}
 use Rattle.assignment.specs.Kinds.{Table, extend}
 use Rattle.assignment.specs.Parts.{channelKind, channels}
 use Rattle.assignment.proofs.Filling.{map-replicate, extend-append}
 
--- the codes of the channels that are chosen from bit i on
-unfoldable pub codesFrom : ℕ → ℕ → List ℕ → ℕ → List ℕ
-codesFrom second i ws v = map kindCode (chosen (channels second i (drop i ws)) (v / 2 ^ i))
+-- the numbers of the channels that are chosen from bit i on
+unfoldable pub codesFrom : ℕ → ℕ → List ℕ → ℕ → List ℤ
+codesFrom second i ws v = map kindNumber (chosen (channels second i (drop i ws)) (v / 2 ^ i))
 
-codes-cond : (b : Bool) (w : ℕ) (k : Kind) → map kindCode (cond b (replicate w k) []) ≡ cond b (replicate w (kindCode k)) []
+codes-cond : (b : Bool) (w : ℕ) (k : Kind) → map kindNumber (cond b (replicate w k) []) ≡ cond b (replicate w (kindNumber k)) []
 codes-cond true w k = map-replicate w k
 codes-cond false w k = refl
 
@@ -27,7 +28,7 @@ unfolding isSet
 lowest i v = rw (div-one (v / 2 ^ i))
 
 module _ (second : ℕ) (ws : List ℕ) (v : ℕ) where
-  pub chosen-all : codesFrom second 0 ws v ≡ map kindCode (chosen (channels second 0 ws) v)
+  pub chosen-all : codesFrom second 0 ws v ≡ map kindNumber (chosen (channels second 0 ws) v)
   unfolding codesFrom
   chosen-all = rw (div-one v)
 
@@ -36,7 +37,7 @@ module _ (second : ℕ) (ws : List ℕ) (v : ℕ) where
   chosen-none i h = rw (drop-of-length-le ws h)
 
   pub chosen-more : (i : ℕ) → i < length ws → (t : Table) →
-      extend (codesFrom second i ws v) t ≡ extend (codesFrom second (i + 1) ws v) (extend (cond (isSet i v) (replicate (getD ws i 0) (kindCode (channelKind second i))) []) t)
+      extend (codesFrom second i ws v) t ≡ extend (codesFrom second (i + 1) ws v) (extend (cond (isSet i v) (replicate (getD ws i 0) (kindNumber (channelKind second i))) []) t)
   unfolding codesFrom channels chosen
   chosen-more i h t =
       rw (drop-cons ws i 0, map-append, codes-cond, lowest, div-div-eq-div-mul, extend-append, add-one, pow-suc)

@@ -5,6 +5,7 @@ use mathlib.Core.Bool.{Bool, cond}
 use mathlib.Core.List.{List, [], _∷_}
 use native.Mathlib.Omega.{arith}
 use lib.Dec.{leb}
+use lib.IntN.{ℤ}
 use lib.ListN.{length, getD, length-append, length-replicate}
 use Rattle.bits.specs.Bits.{isSet}
 use Rattle.bits.specs.Parsed.{Parser, _>>=_, _>>_, mapP, pure, times}
@@ -76,7 +77,7 @@ isfs-le =
 pub if-present : (b : Bool) (n : ℕ) {m : Parser (List Kind)} → Always (AtMost n) m → Always (AtMost n) (cond b m (pure []))
 if-present b n h = choose b h (given [] (omega arith))
 
-pub grown : (t : Table) (n : ℕ) {m : Parser (List Kind)} → Always (AtMost n) m → (s : List ℕ) (e p : ℕ) {r : Number} (l : List ℕ) {k : ℕ} {q : BitPlace} → saidTable r l ≡ onto t (m s e p) → r ≡ Value k q → k ≤ t .count + n
+pub grown : (t : Table) (n : ℕ) {m : Parser (List Kind)} → Always (AtMost n) m → (s : List ℕ) (e p : ℕ) {r : Number} (l : List ℤ) {k : ℕ} {q : BitPlace} → saidTable r l ≡ onto t (m s e p) → r ≡ Value k q → k ≤ t .count + n
 grown t n {m} h s e p l f g =
     let a = read-kinds t (m s e p) (rw g at f) in
     let b = rw (a .gives) at (h .ok s e p) in

@@ -1,31 +1,22 @@
--- The laws that a caller cites: how large a number is, and which kinds were read.
-use Prim.Native.Nat.{ℕ, _+_, _^_, _<_}
+-- The laws that a caller cites: which kinds were read.
+use Prim.Native.Nat.{ℕ}
 use mathlib.Core.Path.{_≡_}
 use mathlib.Core.List.{List, map}
-use native.Mathlib.Omega.{arith}
-use lib.Dec.{eqb}
+use lib.IntN.{ℤ}
 use lib.ListN.{length, take}
 use Rattle.bits.specs.Parsed.{Refusal, Parsed, got, refused}
-use Rattle.bits.proofs.Always.{Always, bind, choose, given, mapped-such}
-use Rattle.bits.proofs.Fields.{read-lt}
 use Rattle.bits.proofs.ParsedLaws.{made-got, made-refused}
-use Rattle.standard.specs.Tree.{Kind, kindCode}
-use Rattle.standard.specs.Assignment.{extended}
+use Rattle.standard.specs.Tree.{Kind, kindNumber}
 use Rattle.assignment.specs.Kinds.{Assigned}
 
-pub extended-lt : (w c largest w′ c′ : ℕ) → Always (λ v. v < 2 ^ w + (largest + 2 ^ w′)) (extended w c largest w′ c′)
-unfolding extended
-extended-lt w c largest w′ c′ =
-    bind _ (read-lt w c) λ v l. choose (eqb v largest) (mapped-such _ (read-lt w′ c′) (λ more l′. omega arith)) (given v (omega arith))
-
 -- the kinds of a payload that was not refused
-pub record Listed (m : Parsed (List Kind)) (n q : ℕ) (codes : List ℕ) : Type 0 where
+pub record Listed (m : Parsed (List Kind)) (n q : ℕ) (codes : List ℤ) : Type 0 where
   pub kinds : List Kind
   pub gives : m ≡ got kinds q
   pub count : length kinds ≡ n
-  pub begins : take n codes ≡ map kindCode kinds
+  pub begins : take n codes ≡ map kindNumber kinds
 
-module _ {m : Parsed (List Kind)} {n : ℕ} {before after : List ℕ} where
+module _ {m : Parsed (List Kind)} {n : ℕ} {before after : List ℤ} where
   pub listed : {q : ℕ} → Assigned m n (got tt q) before after → Listed m n q after
   listed {q} h =
       let k = made-got _ m (h .answered) in

@@ -4,14 +4,15 @@ use mathlib.Core.Path.{_≡_, sym, _∙_}
 use mathlib.Core.Bool.{Bool, true, false, cond}
 use mathlib.Core.List.{List, [], _∷_, _++_, map}
 use native.Mathlib.Omega.{arith}
+use lib.IntN.{ℤ}
 use lib.ListN.{length, replicate, length-replicate}
 use Rattle.bits.specs.Bits.{isSet}
 use Rattle.bits.specs.Parsed.{Parsed, andThen, mapParsed, _>>=_, _>>_, mapP, pure, times}
-use Rattle.bits.specs.Reads.{read, flag}
+use Rattle.bits.specs.Reads.{read, flag, skipBytes}
 use Rattle.bits.proofs.ParsedLaws.{then-got, then-then}
 use Rattle.standard.specs.Contexts as context
-use Rattle.standard.specs.Tree.{Kind, lfe, dynamic, kindCode}
-use Rattle.standard.specs.Assignment.{oneBed, joined, beds, isfs, dynamics, skipBytes, contents}
+use Rattle.standard.specs.Tree.{Kind, lfe, dynamic, kindNumber}
+use Rattle.standard.specs.Assignment.{oneBed, joined, beds, isfs, dynamics, contents}
 use Rattle.assignment.specs.Kinds.{Table, holding, extend, onto}
 use Rattle.assignment.specs.Parts.{bedCount}
 use Rattle.assignment.proofs.Filling.{map-replicate, onto-read, onto-then, onto-last}
@@ -25,9 +26,9 @@ module _ (n : ℕ) (h : 0 < n) where
   only-length true = omega (arith, length-replicate (n - 1) dynamic)
   only-length false = length-replicate n dynamic
 
-  pub only-extends : (l : List ℕ) (b : Bool) →
-      let t = extend (cond b (replicate 1 0) []) (holding 0 l) in
-      extend (replicate (n - t .count) 3) t ≡ extend (map kindCode (only b)) (holding 0 l)
+  pub only-extends : (l : List ℤ) (b : Bool) →
+      let t = extend (cond b (replicate 1 (kindNumber lfe)) []) (holding 0 l) in
+      extend (replicate (n - t .count) (kindNumber dynamic)) t ≡ extend (map kindNumber (only b)) (holding 0 l)
   unfolding extend
   only-extends l true = rw map-replicate
   only-extends l false =

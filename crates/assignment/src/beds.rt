@@ -1,41 +1,27 @@
-// Beds: each is an Lfe alone, or the channels whose bits are set in an assignment.
+// Beds: how many there are, and each is an Lfe alone, or the channels of an assignment.
 ghost use mathlib.Core.Path.{_≡_};
 ghost use mathlib.Core.Bool.{cond};
-ghost use mathlib.Core.List.{[], map};
+ghost use mathlib.Core.List.{[]};
 ghost use Prim.Native.Nat.{_≤_, _<_, _^_};
-ghost use lib.ListN.{length};
 ghost use Rattle.bits.specs.Parsed.{mapP, pure, times};
-ghost use Rattle.bits.specs.Reads.{read};
 ghost use Rattle.bits.specs.Say.{said};
-ghost use Rattle.standard.specs.Tree.{kindCode};
 ghost use Rattle.standard.specs.Assignment as paper;
-ghost use Rattle.assignment.specs.Kinds.{holding, extend, onto, saidTable};
-ghost use Rattle.assignment.specs.Parts.{bedCount, bedChannels, channelKind, channels};
+ghost use Rattle.assignment.specs.Kinds.{holding, onto, saidTable};
+ghost use Rattle.assignment.specs.Parts.{bedCount};
+use crate::channels::parse_bed_channels;
 use crate::contexts;
-use crate::kinds::BED;
-use crate::kinds::LFE;
-use crate::kinds::extend_if;
 use crate::kinds::push;
 use bits::BitPlace;
 use bits::Flag;
 use bits::Number;
-use bits::is_set;
-
-// The widths of the channels, from bit 0; bit 0 and one more are Lfe.
-const STANDARD_WIDTHS: [u8; 10] = [1, 2, 2, 2, 2, 2, 2, 1, 1, 2];
-
-const STANDARD_LFE: usize = 7;
-
-const NONSTANDARD_WIDTHS: [u8; 17] = [1; 17];
-
-const NONSTANDARD_LFE: usize = 13;
+use rows::row::LFE;
 
 pub fn parse_beds(
     payload: &[u8],
     limit: BitPlace,
     at: BitPlace,
     present: bool,
-    kinds: &mut [u8],
+    kinds: &mut [i16],
 ) -> Number
     ensures { λ r. ⌜ saidTable r (now (kinds .exit)) ≡ onto (holding 0 (now (kinds .entry))) (cond present paper.beds (pure []) (now (payload .entry)) (limit .0) (at .0)) ⌝ }
 {
@@ -76,7 +62,7 @@ fn parse_bed_instances(
     limit: BitPlace,
     at: BitPlace,
     bed_count: u32,
-    kinds: &mut [u8],
+    kinds: &mut [i16],
 ) -> Number
     requires { ⌜ «bed_count» ≤ 9 ⌝ }
     ensures { λ r. ⌜ saidTable r (now (kinds .exit)) ≡ onto (holding 0 (now (kinds .entry))) (mapP paper.joined (times «bed_count» paper.oneBed) (now (payload .entry)) (limit .0) (at .0)) ⌝ }
@@ -94,7 +80,7 @@ fn parse_bed_instances(
     Number::Value(count, place)
 }
 
-fn parse_bed(payload: &[u8], limit: BitPlace, at: BitPlace, kinds: &mut [u8], count: u32) -> Number
+fn parse_bed(payload: &[u8], limit: BitPlace, at: BitPlace, kinds: &mut [i16], count: u32) -> Number
     requires { ⌜ count < 2 ^ 16 ⌝ }
     ensures { λ r. ⌜ saidTable r (now (kinds .exit)) ≡ onto (holding count (now (kinds .entry))) (paper.oneBed (now (payload .entry)) (limit .0) (at .0)) ⌝ }
 {
@@ -106,98 +92,5 @@ fn parse_bed(payload: &[u8], limit: BitPlace, at: BitPlace, kinds: &mut [u8], co
             }
             parse_bed_channels(payload, limit, next, kinds, count)
         }
-    }
-}
-
-fn parse_bed_channels(
-    payload: &[u8],
-    limit: BitPlace,
-    at: BitPlace,
-    kinds: &mut [u8],
-    count: u32,
-) -> Number
-    requires { ⌜ count < 2 ^ 16 ⌝ }
-    ensures { λ r. ⌜ saidTable r (now (kinds .exit)) ≡ onto (holding count (now (kinds .entry))) (bedChannels (now (payload .entry)) (limit .0) (at .0)) ⌝ }
-{
-    match bits::read_flag(payload, limit, at, contexts::STANDARD_BED_ASSIGNMENT_FLAG) {
-        Flag::Refused(refusal) => Number::Refused(refusal),
-        Flag::Is(standard, next) => {
-            if standard {
-                return parse_assignment(
-                    payload,
-                    limit,
-                    next,
-                    contexts::STANDARD_BED_ASSIGNMENT,
-                    &STANDARD_WIDTHS,
-                    STANDARD_LFE,
-                    kinds,
-                    count,
-                );
-            }
-            parse_assignment(
-                payload,
-                limit,
-                next,
-                contexts::NONSTANDARD_BED_ASSIGNMENT,
-                &NONSTANDARD_WIDTHS,
-                NONSTANDARD_LFE,
-                kinds,
-                count,
-            )
-        }
-    }
-}
-
-// An assignment has a bit for each channel.
-fn parse_assignment(
-    payload: &[u8],
-    limit: BitPlace,
-    at: BitPlace,
-    context: u8,
-    widths: &[u8],
-    second_lfe: usize,
-    kinds: &mut [u8],
-    count: u32,
-) -> Number
-    requires { ⌜ (length (now widths) ≤ 17) × (count < 2 ^ 16) ⌝ }
-    ensures { λ r. ⌜ saidTable r (now (kinds .exit)) ≡ onto (holding count (now (kinds .entry))) (mapP (paper.chosen (channels «second_lfe» 0 (now (widths .entry)))) (read (length (now (widths .entry))) context) (now (payload .entry)) (limit .0) (at .0)) ⌝ }
-{
-    match bits::read(payload, limit, at, widths.len(), context) {
-        Number::Refused(refusal) => Number::Refused(refusal),
-        Number::Value(assignment, next) => {
-            Number::Value(
-                extend_chosen(kinds, count, assignment, widths, second_lfe),
-                next,
-            )
-        }
-    }
-}
-
-fn extend_chosen(
-    kinds: &mut [u8],
-    count: u32,
-    assignment: u32,
-    widths: &[u8],
-    second_lfe: usize,
-) -> u32
-    requires { ⌜ (length (now widths) ≤ 17) × (count < 2 ^ 16) ⌝ }
-    ensures { λ r. ⌜ holding r (now (kinds .exit)) ≡ extend (map kindCode (paper.chosen (channels «second_lfe» 0 (now (widths .entry))) assignment)) (holding count (now (kinds .entry))) ⌝ }
-{
-    let mut total = count;
-    for index in 0..widths.len() {
-        let chosen = is_set(assignment, index);
-        let kind = channel_kind(second_lfe, index);
-        total = extend_if(kinds, total, chosen, kind, widths[index]);
-    }
-    total
-}
-
-fn channel_kind(second_lfe: usize, index: usize) -> u8
-    ensures { λ r. ⌜ r ≡ kindCode (channelKind «second_lfe» index) ⌝ }
-{
-    if index == 0 || index == second_lfe {
-        LFE
-    } else {
-        BED
     }
 }

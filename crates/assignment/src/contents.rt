@@ -4,27 +4,27 @@ ghost use mathlib.Core.Bool.{cond};
 ghost use mathlib.Core.List.{[]};
 ghost use Prim.Native.Nat.{_<_, _^_};
 ghost use Rattle.bits.specs.Parsed.{pure};
+ghost use Rattle.bits.specs.Reads.{skipBytes};
 ghost use Rattle.bits.specs.Say.{saidPassed};
 ghost use Rattle.standard.specs.Contexts as context;
 ghost use Rattle.standard.specs.Assignment as paper;
 ghost use Rattle.assignment.specs.Kinds.{holding, onto, saidTable};
 use crate::beds::parse_beds;
 use crate::contexts;
-use crate::kinds::DYNAMIC;
-use crate::kinds::ISF;
 use crate::kinds::extend;
-use crate::read_extended;
-use crate::skip_bytes;
 use bits::BitPlace;
 use bits::Number;
 use bits::Passed;
 use bits::Refusal;
 use bits::is_set;
+use cursor::read_extended;
+use rows::row::DYNAMIC;
+use rows::row::ISF;
 
 const ISF_COUNTS: [u32; 6] = [4, 8, 10, 14, 15, 30];
 
 // The count goes up to 153 + 30 + 159, whatever the object count: it is tested last.
-pub fn parse_contents(payload: &[u8], limit: BitPlace, at: BitPlace, kinds: &mut [u8]) -> Number
+pub fn parse_contents(payload: &[u8], limit: BitPlace, at: BitPlace, kinds: &mut [i16]) -> Number
     ensures { λ r. ⌜ saidTable r (now (kinds .exit)) ≡ onto (holding 0 (now (kinds .entry))) (paper.contents (now (payload .entry)) (limit .0) (at .0)) ⌝ }
 {
     let description = bits::read(payload, limit, at, 4, contexts::CONTENT_DESCRIPTION);
@@ -54,7 +54,7 @@ fn parse_isf(
     limit: BitPlace,
     at: BitPlace,
     present: bool,
-    kinds: &mut [u8],
+    kinds: &mut [i16],
     count: u32,
 ) -> Number
     requires { ⌜ count < 2 ^ 16 ⌝ }
@@ -89,7 +89,7 @@ fn parse_dynamic(
     limit: BitPlace,
     at: BitPlace,
     present: bool,
-    kinds: &mut [u8],
+    kinds: &mut [i16],
     count: u32,
 ) -> Number
     requires { ⌜ count < 2 ^ 16 ⌝ }
@@ -104,7 +104,6 @@ fn parse_dynamic(
         at,
         5,
         contexts::DYNAMIC_OBJECT_COUNT,
-        31,
         7,
         contexts::EXTENDED_DYNAMIC_OBJECT_COUNT,
     ) {
@@ -114,12 +113,12 @@ fn parse_dynamic(
 }
 
 fn parse_reserved_data(payload: &[u8], limit: BitPlace, at: BitPlace, present: bool) -> Passed
-    ensures { λ r. ⌜ saidPassed r ≡ cond present (paper.skipBytes context.reserved-data-size context.program-assignment-reserved-data) (pure tt) (now (payload .entry)) (limit .0) (at .0) ⌝ }
+    ensures { λ r. ⌜ saidPassed r ≡ cond present (skipBytes context.reserved-data-size context.program-assignment-reserved-data) (pure tt) (now (payload .entry)) (limit .0) (at .0) ⌝ }
 {
     if !present {
         return Passed::To(at);
     }
-    skip_bytes(
+    bits::skip_bytes(
         payload,
         limit,
         at,

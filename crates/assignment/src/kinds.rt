@@ -1,4 +1,4 @@
-// The kinds of the objects, by their codes in a lent table: those past its end are counted, not stored.
+// The kinds of the objects, by their numbers in a lent table: those past its end are counted, not stored.
 ghost use mathlib.Core.Path.{_≡_};
 ghost use mathlib.Core.Bool.{cond};
 ghost use mathlib.Core.List.{[]};
@@ -6,15 +6,7 @@ ghost use Prim.Native.Nat.{_+_, _<_, _^_};
 ghost use lib.ListN.{replicate};
 ghost use Rattle.assignment.specs.Kinds.{holding, push, extend};
 
-pub const LFE: u8 = 0;
-
-pub const BED: u8 = 1;
-
-pub const ISF: u8 = 2;
-
-pub const DYNAMIC: u8 = 3;
-
-pub fn push(kinds: &mut [u8], count: u32, kind: u8) -> u32
+pub fn push(kinds: &mut [i16], count: u32, kind: i16) -> u32
     requires { ⌜ count + 1 < 2 ^ 32 ⌝ }
     ensures { λ r. ⌜ holding r (now (kinds .exit)) ≡ push kind (holding count (now (kinds .entry))) ⌝ }
 {
@@ -25,7 +17,7 @@ pub fn push(kinds: &mut [u8], count: u32, kind: u8) -> u32
     count + 1
 }
 
-pub fn extend(kinds: &mut [u8], count: u32, kind: u8, number: u32) -> u32
+pub fn extend(kinds: &mut [i16], count: u32, kind: i16, number: u32) -> u32
     requires { ⌜ count + number < 2 ^ 32 ⌝ }
     ensures { λ r. ⌜ holding r (now (kinds .exit)) ≡ extend (replicate number kind) (holding count (now (kinds .entry))) ⌝ }
 {
@@ -37,7 +29,7 @@ pub fn extend(kinds: &mut [u8], count: u32, kind: u8, number: u32) -> u32
     at
 }
 
-pub fn extend_if(kinds: &mut [u8], count: u32, wanted: bool, kind: u8, number: u8) -> u32
+pub fn extend_if(kinds: &mut [i16], count: u32, wanted: bool, kind: i16, number: u8) -> u32
     requires { ⌜ count + number < 2 ^ 32 ⌝ }
     ensures { λ r. ⌜ holding r (now (kinds .exit)) ≡ extend (cond wanted (replicate number kind) []) (holding count (now (kinds .entry))) ⌝ }
 {

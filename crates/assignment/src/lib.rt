@@ -5,12 +5,7 @@ ghost use lib.ListN.{length};
 ghost use Rattle.bits.specs.Say.{said, saidPassed};
 ghost use Rattle.standard.specs.Assignment as paper;
 ghost use Rattle.assignment.specs.Kinds.{Assigned};
-use crate::answers::end_of;
-use crate::answers::is_value;
-use crate::answers::plus;
 use crate::contents::parse_contents;
-use crate::kinds::DYNAMIC;
-use crate::kinds::LFE;
 use crate::kinds::extend;
 use crate::kinds::extend_if;
 use bits::BitPlace;
@@ -18,38 +13,16 @@ use bits::Flag;
 use bits::Number;
 use bits::Passed;
 use bits::Refusal;
-use cursor::BitCursor;
+use cursor::read_extended;
+use rows::numbers::OBJECT_LIMIT;
+use rows::row::DYNAMIC;
+use rows::row::LFE;
 
-mod answers;
 mod beds;
+mod channels;
 mod contents;
 mod contexts;
 mod kinds;
-
-const MAX_OAMD_OBJECTS: u32 = 128;
-
-// A number of `width` bits; its largest value has `extra` more bits added to it.
-pub fn read_extended(
-    payload: &[u8],
-    limit: BitPlace,
-    at: BitPlace,
-    width: usize,
-    context: u8,
-    largest: u32,
-    extra: usize,
-    extra_context: u8,
-) -> Number
-    requires { ⌜ (width ≤ 17) × ((extra ≤ 17) × (largest < 2 ^ 17)) ⌝ }
-    ensures { λ r. ⌜ said r ≡ paper.extended width context largest extra «extra_context» (now (payload .entry)) (limit .0) (at .0) ⌝ }
-{
-    let bits = BitCursor::new(payload, limit, at);
-    let head = bits.read(width, context);
-    if !is_value(head, largest) {
-        return head;
-    }
-    let rest = bits.moved(end_of(head, at));
-    plus(largest, rest.read(extra, extra_context))
-}
 
 pub fn read_version(payload: &[u8], limit: BitPlace, at: BitPlace) -> Passed
     ensures { λ r. ⌜ saidPassed r ≡ paper.version (now (payload .entry)) (limit .0) (at .0) ⌝ }
@@ -60,7 +33,6 @@ pub fn read_version(payload: &[u8], limit: BitPlace, at: BitPlace) -> Passed
         at,
         2,
         contexts::VERSION,
-        3,
         3,
         contexts::EXTENDED_VERSION,
     ) {
@@ -83,14 +55,13 @@ pub fn read_object_count(payload: &[u8], limit: BitPlace, at: BitPlace) -> Numbe
         at,
         5,
         contexts::OBJECT_COUNT,
-        31,
         7,
         contexts::EXTENDED_OBJECT_COUNT,
     ) {
         Number::Refused(refusal) => Number::Refused(refusal),
         Number::Value(coded, next) => {
             let object_count = coded + 1;
-            if object_count > MAX_OAMD_OBJECTS {
+            if object_count as usize > OBJECT_LIMIT {
                 return Number::Refused(Refusal::limit(contexts::OBJECT_COUNT, at));
             }
             Number::Value(object_count, next)
@@ -98,13 +69,13 @@ pub fn read_object_count(payload: &[u8], limit: BitPlace, at: BitPlace) -> Numbe
     }
 }
 
-// The codes of the objects' kinds, from the start of the lent table.
+// The numbers of the objects' kinds, from the start of the lent table.
 pub fn parse_program_assignment(
     payload: &[u8],
     limit: BitPlace,
     at: BitPlace,
     object_count: usize,
-    kinds: &mut [u8],
+    kinds: &mut [i16],
 ) -> Passed
     requires { ⌜ (0 < «object_count») × ((«object_count» < 2 ^ 16) × («object_count» ≤ length (now kinds))) ⌝ }
     ensures { λ r. ⌜ Assigned (paper.assignment «object_count» (now (payload .entry)) (limit .0) (at .0)) «object_count» (saidPassed r) (now (kinds .entry)) (now (kinds .exit)) ⌝ }
@@ -137,7 +108,7 @@ fn parse_dynamic_only(
     limit: BitPlace,
     at: BitPlace,
     object_count: u32,
-    kinds: &mut [u8],
+    kinds: &mut [i16],
 ) -> Passed
     requires { ⌜ (0 < «object_count») × ((«object_count» < 2 ^ 16) × («object_count» ≤ length (now kinds))) ⌝ }
     ensures { λ r. ⌜ Assigned (paper.onlyDynamic «object_count» (now (payload .entry)) (limit .0) (at .0)) «object_count» (saidPassed r) (now (kinds .entry)) (now (kinds .exit)) ⌝ }
@@ -148,24 +119,6 @@ fn parse_dynamic_only(
             let first = extend_if(kinds, 0, lfe_present, LFE, 1);
             extend(kinds, first, DYNAMIC, object_count - first);
             Passed::To(next)
-        }
-    }
-}
-
-// A count of bytes less 1 in 4 bits, and so many bytes passed over.
-pub fn skip_bytes(
-    payload: &[u8],
-    limit: BitPlace,
-    at: BitPlace,
-    context: u8,
-    data_context: u8,
-) -> Passed
-    ensures { λ r. ⌜ saidPassed r ≡ paper.skipBytes context «data_context» (now (payload .entry)) (limit .0) (at .0) ⌝ }
-{
-    match bits::read(payload, limit, at, 4, context) {
-        Number::Refused(refusal) => Passed::Refused(refusal),
-        Number::Value(coded, next) => {
-            bits::skip(limit, next, (coded as usize + 1) * 8, data_context)
         }
     }
 }

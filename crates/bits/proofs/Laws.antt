@@ -4,7 +4,7 @@ use mathlib.Core.Path.{_≡_, sym, _∙_, ap, subst}
 use mathlib.Core.List.{List}
 use Rattle.bits.specs.Parsed.{Parsed, Parser}
 use Rattle.bits.proofs.Always.{Ok, Always}
-pub use Rattle.bits.proofs.Fields.{read-lt}
+pub use Rattle.bits.proofs.Fields.{read-lt, extended-lt}
 pub use Rattle.bits.proofs.Groups.{variable-lt, variable-tells}
 pub use Rattle.bits.proofs.Padding.{FirstSet, Zeros, padding-tells}
 pub use Rattle.bits.proofs.Signs.{signed-lt}

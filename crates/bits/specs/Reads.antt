@@ -33,6 +33,18 @@ signed w v = cond (ltb v (2 ^ (w - 1))) (pos v) (subℕ v (2 ^ w))
 unfoldable pub readSigned : ℕ → ℕ → Parser ℤ
 readSigned w c = mapP (signed w) (read w c)
 
+-- a number of w bits, to whose largest value w′ more bits are added
+unfoldable pub extended : ℕ → ℕ → ℕ → ℕ → ℕ → Parser ℕ
+extended w c largest w′ c′ = do
+  v ← read w c
+  cond (eqb v largest) (mapP (λ more. largest + more) (read w′ c′)) (pure v)
+
+-- a count of bytes less 1 in 4 bits, and so many bytes passed over
+unfoldable pub skipBytes : ℕ → ℕ → Parser (Unit {0})
+skipBytes c c′ = do
+  n ← read 4 c
+  skip ((n + 1) * 8) c′
+
 -- Variable bits: groups of w bits, each with a flag that says whether another follows.
 -- The number begins at `first`; the groups so far gave v, and n more may follow.
 unfoldable pub laterGroups : ℕ → ℕ → ℕ → ℕ → ℕ → Parser ℕ

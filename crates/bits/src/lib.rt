@@ -11,7 +11,7 @@ ghost use Rattle.bits.specs.Say.{refusal, said, saidFlag, saidPassed, sa
 mod values;
 
 pub use values::is_set;
-use values::two_to;
+pub use values::two_to;
 use values::with_sign;
 
 const MAX_VARIABLE_BITS_GROUPS: usize = 4;
@@ -215,6 +215,25 @@ pub fn skip(limit: BitPlace, at: BitPlace, count: usize, context: u8) -> Passed
         return Passed::Refused(Refusal::truncated(context, at, count, remained));
     }
     Passed::To(BitPlace(at.0 + count))
+}
+
+// A count of bytes less 1 in 4 bits, and so many bytes passed over.
+pub fn skip_bytes(
+    payload: &[u8],
+    limit: BitPlace,
+    at: BitPlace,
+    context: u8,
+    data_context: u8,
+) -> Passed
+    ensures { λ r. ⌜ saidPassed r ≡ reads.skipBytes context «data_context» (now (payload .entry)) (limit .0) (at .0) ⌝ }
+{
+    match read(payload, limit, at, 4, context) {
+        Number::Refused(refusal) => Passed::Refused(refusal),
+        Number::Value(coded, next) => {
+            let run = ByteCount(coded as usize + 1).bits();
+            skip(limit, next, run.0, data_context)
+        }
+    }
 }
 
 pub fn consume_zero_padding(payload: &[u8], limit: BitPlace, at: BitPlace, context: u8) -> Passed

@@ -1,4 +1,4 @@
--- What a walk cites that makes, moves or reads a cursor: each contract, what its call asks (`asks`), and what is known of its result (`told`).
+-- What a walk cites that makes a cursor, reads through it, or goes on after an answer: each contract, what its call asks (`asks`), and what is known of its result (`told`).
 use mathlib.Core.Path.{_≡_, refl}
 use Prim.Native.Nat.{ℕ, _≤_, _<_, _^_}
 use mathlib.Core.List.{List, [], _∷_}
@@ -33,20 +33,23 @@ use Rattle.bits.specs.declared.BitPlace.{BitPlace}
 use Rattle.bits.specs.declared.Number.{Number}
 use Rattle.bits.proofs.BitPlace as P
 use Rattle.bits.proofs.BitPlace.Laws as P′
+use Rattle.bits.proofs.Number as N
+use Rattle.cursor.specs.Answers.{endOf}
 use Rattle.cursor.specs.declared.BitCursor.{BitCursor}
 use Rattle.cursor.proofs.BitCursor as T
 use Rattle.cursor.proofs.BitCursor.Laws as T′
 use Rattle.cursor.proofs.BitCursor.new as new
-use Rattle.cursor.proofs.BitCursor.moved as moved
+use Rattle.cursor.proofs.BitCursor.after as after
 use Rattle.cursor.proofs.BitCursor.read as read
 use Rattle.cursor.proofs.Held.{B, IsPlace, place-makes}
+use Rattle.cursor.proofs.Answering.{number-makes}
 
 module _ {M : Type 1} (𝓤 : URA M) (H : Heap 𝓤) (A : Atoms 𝓤) (mem : Memory → SProp 𝓤) (run : Routine → Fun 𝓤) where
   abbrev pub New : Contract 𝓤
   New = tripleOf 𝓤 H A new.signature (new.spec 𝓤 H A mem run)
 
-  abbrev pub Moved : Contract 𝓤
-  Moved = tripleOf 𝓤 H A moved.signature (moved.spec 𝓤 H A mem run)
+  abbrev pub After : Contract 𝓤
+  After = tripleOf 𝓤 H A after.signature (after.spec 𝓤 H A mem run)
 
   abbrev pub Read : Contract 𝓤
   Read = tripleOf 𝓤 H A read.signature (read.spec 𝓤 H A mem run)
@@ -54,9 +57,12 @@ module _ {M : Type 1} (𝓤 : URA M) (H : Heap 𝓤) (A : Atoms 𝓤) (mem : Mem
 abbrev pub cursorOf : RefT (List ℕ) → BitPlace → BitPlace → BitCursor
 cursorOf s limit p = record { payload = s; limit = limit; position = p }
 
--- what is said of a cursor that is made or moved, and of a number that is read
+-- what is said of a cursor that is made, of one that goes on, and of a number that is read
 abbrev pub Stands : RefT (List ℕ) → BitPlace → BitPlace → BitCursor → Type 0
 Stands s limit p r = (r .payload ≡ s) × ((r .limit ≡ limit) × (r .position ≡ p))
+
+abbrev pub Follows : BitCursor → Number → BitCursor → Type 0
+Follows d n r = (r .payload ≡ d .payload) × ((r .limit ≡ d .limit) × (r .position .0 ≡ endOf (d .position .0) (said n)))
 
 abbrev pub Reads : BitCursor → ℕ → ℕ → Number → Type 0
 Reads d w c r = said r ≡ reads.read w c (now (d .payload)) (d .limit .0) (d .position .0)
@@ -91,16 +97,16 @@ module _ {M : Type 1} (𝓤 : URA M) (H : Heap 𝓤) (A : Atoms 𝓤) (W : Given
     pub new-told : (r : BitCursor) → ent 𝓤 (ensured 𝓤 H A new.ended (new.clauses 𝓤 H A mem run) (κ, tt) (s, (limit, (p, tt))) tt r) (fact 𝓤 (Stands s limit p r))
     new-told r = exE 𝓤 _ (λ ws. snd∗ 𝓤 (sem 𝓤 H A (lasts new.ended (κ, tt) (s, (limit, (p, tt))) ws)) (fact 𝓤 (Stands s limit p r)))
 
-  module _ (d : BitCursor) (u : Val) (p : BitPlace) (up : Val) where
-    abbrev pub to-moved : Moved 𝓤 H A mem run .Ghost
-    to-moved = (((κ, tt), (q, tt), tt, (d, (p, tt)), (u ∷ [], (up ∷ [], tt))), tt)
+  module _ (d : BitCursor) (u : Val) (n : Number) (un : Val) where
+    abbrev pub to-after : After 𝓤 H A mem run .Ghost
+    to-after = (((κ, tt), (q, tt), tt, (d, (n, tt)), (u ∷ [], (un ∷ [], tt))), tt)
 
-    pub moved-asks : Is P.the-row p (up ∷ []) → ent 𝓤 (sep 𝓤 Token (sem 𝓤 H A (B (κ, tt) .own d (u ∷ [])))) (Moved 𝓤 H A mem run .pre to-moved)
-    moved-asks i =
-        qed W ((‵ (flft κ q) ⊛ ‵ ftrue) ∷ ‵ (B (κ, tt) .own d (u ∷ [])) ∷ []) ∵ nothing ! $ owned ! P.the-row (Is P.the-row) (place-makes 𝓤 H A) p _ i $ fjoin ! $ move ! (2 ∷ 0 ∷ []) $ fjoin ! $ move ! (1 ∷ 0 ∷ []) $ join ! $ frame ! $ done !
+    pub after-asks : Is N.the-row n (un ∷ []) → ent 𝓤 (sep 𝓤 Token (sem 𝓤 H A (B (κ, tt) .own d (u ∷ [])))) (After 𝓤 H A mem run .pre to-after)
+    after-asks i =
+        qed W ((‵ (flft κ q) ⊛ ‵ ftrue) ∷ ‵ (B (κ, tt) .own d (u ∷ [])) ∷ []) ∵ nothing ! $ owned ! N.the-row (Is N.the-row) (number-makes 𝓤 H A) n _ i $ fjoin ! $ move ! (2 ∷ 0 ∷ []) $ fjoin ! $ move ! (1 ∷ 0 ∷ []) $ join ! $ frame ! $ done !
 
-    pub moved-told : (r : BitCursor) → ent 𝓤 (ensured 𝓤 H A moved.ended (moved.clauses 𝓤 H A mem run) (κ, tt) (d, (p, tt)) tt r) (fact 𝓤 (Stands (d .payload) (d .limit) p r))
-    moved-told r = exE 𝓤 _ (λ ws. snd∗ 𝓤 (sem 𝓤 H A (lasts moved.ended (κ, tt) (d, (p, tt)) ws)) (fact 𝓤 (Stands (d .payload) (d .limit) p r)))
+    pub after-told : (r : BitCursor) → ent 𝓤 (ensured 𝓤 H A after.ended (after.clauses 𝓤 H A mem run) (κ, tt) (d, (n, tt)) tt r) (fact 𝓤 (Follows d n r))
+    after-told r = exE 𝓤 _ (λ ws. snd∗ 𝓤 (sem 𝓤 H A (lasts after.ended (κ, tt) (d, (n, tt)) ws)) (fact 𝓤 (Follows d n r)))
 
   module _ (d : BitCursor) (u : Val) (w c : ℕ) where
     abbrev pub to-read : Read 𝓤 H A mem run .Ghost

@@ -1,2 +1,4 @@
 pub mod Held
 pub mod Calling
+pub mod Answering
+pub mod Extended

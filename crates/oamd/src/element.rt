@@ -6,13 +6,13 @@ ghost use Rattle.standard.specs.Syntax as paper;
 ghost use Rattle.oamd.specs.Head.{elementEnd, enter, elementHead};
 ghost use Rattle.oamd.specs.Say.{saidEnd, saidHead};
 use crate::contexts;
-use assignment::read_extended;
 use bits::BitPlace;
 use bits::ByteCount;
 use bits::Flag;
 use bits::Number;
 use bits::Passed;
 use bits::Refusal;
+use cursor::read_extended;
 
 const MAX_OAMD_ELEMENTS: u32 = 31;
 
@@ -37,7 +37,6 @@ pub fn read_element_count(payload: &[u8], limit: BitPlace, at: BitPlace) -> Numb
         at,
         4,
         contexts::ELEMENT_COUNT,
-        15,
         5,
         contexts::EXTENDED_ELEMENT_COUNT,
     ) {

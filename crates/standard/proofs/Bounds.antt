@@ -10,10 +10,10 @@ use lib.ListN.{length}
 use borrow.Author.Tests.{leb-true}
 use Rattle.bits.specs.Bits.{bitAt}
 use Rattle.bits.specs.Parsed.{Refusal, Parsed, got, refused, Parser, andThen, mapParsed, _>>=_, _>>_, mapP, pure, refuse, within, refusedAs, times, optional, each, here, theEnd, goTo, require, insteadOf, placedAt, placed, truncated, invalid, limit, unsupported}
-use Rattle.bits.specs.Reads.{read, flag, skip, zeros, padding, readSigned, laterGroups, variableBits}
+use Rattle.bits.specs.Reads.{read, flag, skip, zeros, padding, readSigned, extended, skipBytes, laterGroups, variableBits}
 use Rattle.standard.specs.Contexts as context
 use Rattle.standard.specs.Tree.{Kind, Tree}
-use Rattle.standard.specs.Assignment.{extended, version, objectCount, onlyDynamic, oneBed, beds, isfs, dynamics, skipBytes, contents, assignment}
+use Rattle.standard.specs.Assignment.{version, objectCount, onlyDynamic, oneBed, beds, isfs, dynamics, contents, assignment}
 use Rattle.standard.specs.Updates.{gainWord, priorityWord, basic, differential, absolutely, distance, positionWord, zoneWord, sizeWord, screenWord, groups, render, status, activeUpdate, tableData, update, object}
 use Rattle.standard.specs.Syntax.{sampleOffset, ramp, timing, reserved, objectElement, trim, elementCount, elementSize, alternate, once, content, element, elements, present, body, payload, syntax}
 

@@ -1,21 +1,15 @@
 -- Document 01, "Reading order", from the version to the program assignment: the kinds of a payload's objects.
-use Prim.Native.Nat.{ℕ, _+_, _*_, _-_, _/_}
+use Prim.Native.Nat.{ℕ, _+_, _-_, _/_}
 use mathlib.Core.Bool.{cond}
 use mathlib.Core.List.{List, [], _∷_, _++_}
 use lib.Dec.{leb, eqb}
 use lib.ListN.{length, getD, replicate}
 use Rattle.bits.specs.Bits.{isSet}
 use Rattle.bits.specs.Parsed.{Parser, _>>=_, _>>_, mapP, pure, times, here, require, invalid, limit, unsupported}
-use Rattle.bits.specs.Reads.{read, flag, skip}
+use Rattle.bits.specs.Reads.{read, flag, extended, skipBytes}
 use Rattle.standard.specs.Numbers.{objectLimit}
 use Rattle.standard.specs.Tree.{Kind, lfe, bed, isf, dynamic}
 use Rattle.standard.specs.Contexts as context
-
--- a number of w bits; its largest value has w′ more bits added to it
-unfoldable pub extended : ℕ → ℕ → ℕ → ℕ → ℕ → Parser ℕ
-extended w c largest w′ c′ = do
-  v ← read w c
-  cond (eqb v largest) (mapP (λ more. largest + more) (read w′ c′)) (pure v)
 
 unfoldable pub version : Parser (Unit {0})
 version = do
@@ -89,12 +83,6 @@ isfs = do
 -- in two parts as the object count, with 159 as the most
 unfoldable pub dynamics : Parser (List Kind)
 dynamics = mapP (λ v. replicate (v + 1) dynamic) (extended 5 context.dynamic-object-count 31 7 context.extended-dynamic-object-count)
-
--- a count of bytes less 1 in 4 bits, and so many bytes passed over
-unfoldable pub skipBytes : ℕ → ℕ → Parser (Unit {0})
-skipBytes c c′ = do
-  n ← read 4 c
-  skip ((n + 1) * 8) c′
 
 -- The content, from its highest bit: beds, spatial formats, Dynamic objects, reserved data
 unfoldable pub contents : Parser (List Kind)

@@ -1,9 +1,9 @@
 -- Every definition opened at once, for what is proved by computation: `unfolding computed`.
 use Rattle.bits.specs.Bits.{bitAt, field, isSet}
 use Rattle.bits.specs.Parsed.{_>>=_, _>>_, mapP, pure, refuse, within, refusedAs, times, optional, each, here, theEnd, goTo, require, placed}
-use Rattle.bits.specs.Reads.{read, flag, skip, zeros, padding, signed, readSigned, laterGroups, variableBits}
+use Rattle.bits.specs.Reads.{read, flag, skip, zeros, padding, signed, readSigned, extended, skipBytes, laterGroups, variableBits}
 use Rattle.standard.specs.Numbers.{rowWidth, objectLimit, blockLimit, retainedHead, retainedLength, startLength, blocksLength, timingsLength, payloadLimit, elementLimit, frameLength}
-use Rattle.standard.specs.Assignment.{extended, version, objectCount, onlyDynamic, chosen, standardBeds, nonstandardBeds, oneBed, joined, beds, isfCounts, isfs, dynamics, skipBytes, contents, assignment}
+use Rattle.standard.specs.Assignment.{version, objectCount, onlyDynamic, chosen, standardBeds, nonstandardBeds, oneBed, joined, beds, isfCounts, isfs, dynamics, contents, assignment}
 use Rattle.standard.specs.Updates.{decibels, gainWord, priorityWord, basic, differential, absolutely, distance, positionWord, bit, zoneWord, sized, sizeWord, screenWord, groups, render, status, activeUpdate, tableData, update, object}
 use Rattle.standard.specs.Syntax.{sampleOffsets, sampleOffset, rampDurations, ramp, timing, reserved, objectElement, trim, elementCount, elementSize, alternate, once, content, element, elements, present, body, payload, syntax}
 use Rattle.standard.specs.Rows.{fresh, defaultPicture}

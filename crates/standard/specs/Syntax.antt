@@ -6,10 +6,10 @@ use mathlib.Core.Option.{Option, none, some}
 use lib.Dec.{leb, eqb}
 use lib.ListN.{length, getD}
 use Rattle.bits.specs.Parsed.{Parsed, Parser, _>>=_, _>>_, mapP, pure, refuse, within, times, each, here, theEnd, goTo, require, truncated, invalid, limit, unsupported}
-use Rattle.bits.specs.Reads.{read, flag, skip, padding, variableBits}
+use Rattle.bits.specs.Reads.{read, flag, skip, padding, extended, variableBits}
 use Rattle.standard.specs.Numbers.{elementLimit}
 use Rattle.standard.specs.Tree.{Kind, Timing, Tree}
-use Rattle.standard.specs.Assignment.{extended, version, objectCount, assignment}
+use Rattle.standard.specs.Assignment.{version, objectCount, assignment}
 use Rattle.standard.specs.Updates.{object}
 use Rattle.standard.specs.Contexts as context
 

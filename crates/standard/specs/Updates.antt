@@ -7,10 +7,9 @@ use lib.Dec.{leb, eqb}
 use lib.IntN.{ℤ, pos, negsuc, negℤ, subℕ}
 use Rattle.bits.specs.Bits.{isSet}
 use Rattle.bits.specs.Parsed.{Parser, _>>=_, _>>_, mapP, pure, refuse, times, optional, here, require, placedAt, placed, invalid}
-use Rattle.bits.specs.Reads.{read, flag, readSigned}
+use Rattle.bits.specs.Reads.{read, flag, readSigned, skipBytes}
 use Rattle.standard.specs.Numbers.{silence}
 use Rattle.standard.specs.Tree.{Kind, isDynamic, Zone, Size, GainWord, level, copied, PositionWord, absolute, moved, Basic, Groups, Render, default, kept, given, Update, inactive, active, Object}
-use Rattle.standard.specs.Assignment.{skipBytes}
 use Rattle.standard.specs.Contexts as context
 
 -- Basic information

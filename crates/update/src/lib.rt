@@ -18,7 +18,6 @@ mod state;
 use basic::PreviousGain;
 use basic::parse_basic_info;
 use bits::BitPlace;
-use bits::ByteCount;
 use bits::Flag;
 use bits::Number;
 use bits::Passed;
@@ -123,13 +122,13 @@ fn skip_table_data(payload: &[u8], limit: BitPlace, at: BitPlace) -> Passed
             if !there {
                 return Passed::To(at);
             }
-            match bits::read(payload, limit, at, 4, ADDITIONAL_TABLE_DATA_SIZE) {
-                Number::Refused(refusal) => Passed::Refused(refusal),
-                Number::Value(bytes, at) => {
-                    let run = ByteCount(bytes as usize + 1).bits();
-                    bits::skip(limit, at, run.0, ADDITIONAL_TABLE_DATA)
-                }
-            }
+            bits::skip_bytes(
+                payload,
+                limit,
+                at,
+                ADDITIONAL_TABLE_DATA_SIZE,
+                ADDITIONAL_TABLE_DATA,
+            )
         }
     }
 }

@@ -3,6 +3,7 @@ use Prim.Native.Nat.{_≤_}
 use mathlib.Core.Path.{refl}
 use native.Mathlib.Omega.{arith}
 use borrow.Author.Needs.{needs}
+use lib.IntN.{pos}
 use Rattle.bits.specs.Parsed.{mapP}
 use Rattle.standard.specs.Assignment.{onlyDynamic}
 use Rattle.assignment.specs.Kinds.{holding}
@@ -15,8 +16,8 @@ use Rattle.assignment.proofs.parse_dynamic_only.Tie as tie
 first-le : (c : tie.After-extend-if) → c .extend-if .result ≤ 1
 first-le c =
     let f = c .before .before .before in
-    let a = f .before .before .before .before .before .args in
-    cond-grown (f .lfe-present .given .0 .0) 1 0 (holding 0 (a .kinds .now)) (c .extend-if .ensures)
+    let a = f .before .before .before .before .args in
+    cond-grown (f .lfe-present .given .0 .0) 1 (pos 0) (holding 0 (a .kinds .now)) (c .extend-if .ensures)
 
 returns : tie.Need-returns
 unfolding onlyDynamic mapP
@@ -25,10 +26,10 @@ returns c = none-assigned _ _ _ (rw (← (c .before .before .before .read-flag .
 returns-2 : tie.Need-returns-2
 unfolding onlyDynamic mapP
 returns-2 c =
-    let x = c .before .before in
-    let i = x .before .before .before .before in
+    let x = c .before in
+    let i = x .before .before .before in
     let f = i .before .before .before in
-    let w = f .before .before .before .before .before in
+    let w = f .before .before .before .before in
     let n = w .args .object-count in
     let b = f .lfe-present .given .0 .0 in
     all-assigned _ _ _ (x .extend .result) (only n (w .pre .0) b)
@@ -45,8 +46,8 @@ parse-dynamic-only-spec =
     (λ c. search needs)
     (λ c. search needs)
     (λ c κs. search needs)
-    (λ c. omega (arith, first-le (c .before .before .before)))
-    (λ c κs. omega (arith, first-le (c .before .before .before)))
+    (λ c. omega (arith, first-le (c .before .before)))
+    (λ c κs. omega (arith, first-le (c .before .before)))
     returns
     (λ c. search needs)
     returns-2)

@@ -4,10 +4,9 @@ use borrow.Author.Needs.{needs}
 use borrow.Author.Tests.{le-leb, lt-leb}
 use Rattle.bits.specs.Parsed.{_>>=_, _>>_, pure, refuse, here, require}
 use Rattle.bits.specs.Say.{said}
-use Rattle.bits.proofs.Laws.{gives}
+use Rattle.bits.proofs.Laws.{gives, extended-lt}
 use Rattle.standard.specs.Numbers.{objectLimit}
 use Rattle.standard.specs.Assignment.{objectCount}
-use Rattle.assignment.proofs.Laws.{extended-lt}
 use Rattle.assignment.proofs.read_object_count.Statement.{statement}
 use Rattle.assignment.proofs.read_object_count.Tie as tie
 
@@ -32,6 +31,7 @@ read-object-count-spec =
     (λ c. search needs)
     (λ c. search needs)
     (λ c. omega (arith, gives said (extended-lt _ _ _ _ _) (c .before .before .before .read-extended .ensures) (c .before .coded .given .1)))
+    (λ c. search needs)
     (λ c κs. search needs)
     returns
     (λ c. rw (← (c .before .before .before .read-extended .ensures), c .before .refusal .given .1))

@@ -2,45 +2,27 @@
 use borrow.Author.Needs.{needs}
 use borrow.Author.Tests.{not-true, not-false}
 use Rattle.bits.specs.Parsed.{_>>=_, pure}
-use Rattle.standard.specs.Assignment.{skipBytes}
 use Rattle.standard.specs.Updates.{tableData}
 use Rattle.update.proofs.skip_table_data.Statement.{statement}
 use Rattle.update.proofs.skip_table_data.Tie as tie
 
 returns-3 : tie.Need-returns-3
-unfolding tableData skipBytes _>>=_ pure
+unfolding tableData _>>=_ pure
 returns-3 c =
-    let there = c .before .before .before .before .before .before in
+    let there = c .before .before .before in
     rw (
       ← (there .before .before .read-flag .ensures),
       there .there .given .1,
-      not-false (there .there .given .0 .0) (c .before .before .before .before .if1 .left),
-      ← (c .before .before .before .read .ensures),
-      c .before .refusal2 .given .1,
+      not-false (there .there .given .0 .0) (c .before .if1 .left),
     )
-
-returns-4 : tie.Need-returns-4
-unfolding tableData skipBytes _>>=_ pure
-returns-4 c =
-    let bytes = c .before .before .before in
-    let there = bytes .before .before .before .before .before in
-    rw (
-      ← (there .before .before .read-flag .ensures),
-      there .there .given .1,
-      not-false (there .there .given .0 .0) (bytes .before .before .before .if1 .left),
-      ← (bytes .before .before .read .ensures),
-      bytes .bytes .given .1,
-      ← (c .before .bits .ensures),
-    )
-    (c .skip .ensures _)
+    (c .skip-bytes .ensures)
 
 pub skip-table-data-spec : {M : Type 1} → statement M
-unfolding tableData skipBytes _>>=_ pure
+unfolding tableData _>>=_ pure
 skip-table-data-spec =
     tie.close
     (tie.spec
     (λ c κs. search needs) (λ c. search needs) (λ c. search needs)
     (λ c. rw (← (c .before .before .before .before .read-flag .ensures), c .before .before .there .given .1, not-true (c .before .before .there .given .0 .0) (c .if1 .taken)))
-    (λ c κs. search needs) (λ c. search needs) (λ c. search needs) (λ c. search needs) (λ c. search needs)
-    (λ c κs. search needs) (λ c κs. search needs)
-    (λ c. rw (← (c .before .before .before .read-flag .ensures), c .before .refusal .given .1)) returns-3 returns-4)
+    (λ c κs. search needs)
+    (λ c. rw (← (c .before .before .before .read-flag .ensures), c .before .refusal .given .1)) returns-3)

@@ -10,7 +10,7 @@ use Rattle.assignment.proofs.beds.parse_bed.Tie as tie
 returns : tie.Need-returns
 unfolding oneBed _>>=_ pure extend onto
 returns c =
-    let p = c .before .before in
+    let p = c .before in
     let f = p .before .before .before .before in
     rw (p .push .ensures, ← (f .before .before .read-flag .ensures), f .lfe-only .given .1, p .before .before .if1 .taken)
 
@@ -21,7 +21,7 @@ returns-2 c = rw (← (c .before .before .before .read-flag .ensures), c .before
 returns-3 : tie.Need-returns-3
 unfolding oneBed bedChannels _>>=_
 returns-3 c =
-    let p = c .before .before in
+    let p = c .before in
     let f = p .before .before .before .before in
     rw (← (f .before .before .read-flag .ensures), f .lfe-only .given .1, p .before .before .if1 .left) (p .parse-bed-channels .ensures)
 

@@ -17,18 +17,18 @@ use Rattle.assignment.proofs.beds.parse_beds.Statement.{statement}
 use Rattle.assignment.proofs.beds.parse_beds.Tie as tie
 
 returns : tie.Need-returns
-returns c = rw (not-true (c .before .before .before .args .present) (c .if1 .taken), onto-none)
+returns c = rw (not-true (c .before .before .args .present) (c .if1 .taken), onto-none)
 
 -- the count, and then the beds
 at-count : (c : tie.After-read-bed-count) →
-    let a = c .before .before .before .before .before .before .before .before .args in
+    let a = c .before .before .before .before .before .before .before .args in
     cond (a .present) beds (pure []) (a .payload .now) (a .limit .0) (a .at .0)
     ≡ andThen (said (c .read-bed-count .result)) (λ n q. mapP joined (times n oneBed) (a .payload .now) (a .limit .0) q)
 unfolding _>>=_ _>>_
 at-count c =
     let d = c .before .before in
     let f = d .before .before .before in
-    rw (not-false (f .before .before .before .args .present) (f .if1 .left), counted-beds, ← (d .before .before .read-flag .ensures), d .-distribute .given .1, c .read-bed-count .ensures)
+    rw (not-false (f .before .before .args .present) (f .if1 .left), counted-beds, ← (d .before .before .read-flag .ensures), d .-distribute .given .1, c .read-bed-count .ensures)
 
 returns-2 : tie.Need-returns-2
 unfolding onto
@@ -43,11 +43,11 @@ returns-3 : tie.Need-returns-3
 unfolding _>>_ onto
 returns-3 c =
     let f = c .before .before .before .before in
-    rw (not-false (f .before .before .before .args .present) (f .if1 .left), counted-beds, ← (c .before .before .before .read-flag .ensures), c .before .refusal .given .1)
+    rw (not-false (f .before .before .args .present) (f .if1 .left), counted-beds, ← (c .before .before .before .read-flag .ensures), c .before .refusal .given .1)
 
 returns-4 : tie.Need-returns-4
 returns-4 c =
-    let p = c .before .before in
+    let p = c .before in
     let n = p .before .before .before in
     rw (at-count (n .before .before), n .beds .given .1) (p .parse-bed-instances .ensures)
 

@@ -18,18 +18,18 @@ use Rattle.assignment.proofs.contents.parse_isf.Statement.{statement}
 use Rattle.assignment.proofs.contents.parse_isf.Tie as tie
 
 returns : tie.Need-returns
-returns c = rw (not-true (c .before .before .before .args .present) (c .if1 .taken), onto-none)
+returns c = rw (not-true (c .before .before .args .present) (c .if1 .taken), onto-none)
 
 -- the format is read, and tested
 at-code : (c : tie.After-code) →
-    let a = c .before .before .before .before .before .before .args in
+    let a = c .before .before .before .before .before .args in
     let format = c .code .given .0 .0 in
     cond (a .present) isfs (pure []) (a .payload .now) (a .limit .0) (a .at .0)
     ≡ (require (leb format 5) (invalid context.intermediate-spatial-format-index (a .at .0)) >> pure (replicate (getD isfCounts format 0) isf)) (a .payload .now) (a .limit .0) (c .code .given .0 .1 .0 .0)
 unfolding isfs _>>=_ here
 at-code c =
     let f = c .before .before .before in
-    rw (not-false (f .before .before .before .args .present) (f .if1 .left), ← (c .before .before .read .ensures), c .code .given .1)
+    rw (not-false (f .before .before .args .present) (f .if1 .left), ← (c .before .before .read .ensures), c .code .given .1)
 
 returns-2 : tie.Need-returns-2
 unfolding _>>_ refuse require onto
@@ -45,12 +45,12 @@ returns-3 : tie.Need-returns-3
 unfolding isfs _>>=_ here onto
 returns-3 c =
     let f = c .before .before .before .before in
-    rw (not-false (f .before .before .before .args .present) (f .if1 .left), ← (c .before .before .before .read .ensures), c .before .refusal .given .1)
+    rw (not-false (f .before .before .args .present) (f .if1 .left), ← (c .before .before .before .read .ensures), c .before .refusal .given .1)
 
 returns-4 : tie.Need-returns-4
 unfolding isfCounts _>>_ pure require onto
 returns-4 c =
-    let x = c .before .before in
+    let x = c .before in
     let v = x .before .before .before .before in
     rw (x .extend .ensures, at-code v, le-leb (v .code .given .0 .0) 5 (omega arith), map-replicate)
 

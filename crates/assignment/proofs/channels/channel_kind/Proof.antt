@@ -1,12 +1,12 @@
--- `assignment::beds::channel_kind` meets its contract.
+-- `assignment::channels::channel_kind` meets its contract.
 use mathlib.Core.Bool.{_||_}
 use mathlib.Core.Logic.{⊎-elim}
 use mathlib.Core.Path.{_≡_}
 use borrow.Author.Tests.{eq-eqb, ne-eqb}
 use lib.Dec.{eqb}
 use Rattle.assignment.specs.Parts.{channelKind}
-use Rattle.assignment.proofs.beds.channel_kind.Statement.{statement}
-use Rattle.assignment.proofs.beds.channel_kind.Tie as tie
+use Rattle.assignment.proofs.channels.channel_kind.Statement.{statement}
+use Rattle.assignment.proofs.channels.channel_kind.Tie as tie
 
 is-lfe : (c : tie.Joined1) →
     let a = c .before .args in

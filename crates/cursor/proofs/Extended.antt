@@ -7,11 +7,10 @@ use native.Mathlib.Omega.{arith}
 use lib.Dec.{T, eqb}
 use lib.Pow.{pow-mono}
 use Rattle.bits.specs.Parsed.{Parsed, got, refused, andThen, mapParsed, _>>=_, mapP, pure}
-use Rattle.bits.specs.Reads.{read}
+use Rattle.bits.specs.Reads.{read, extended}
 use Rattle.bits.proofs.Always.{Ok}
 use Rattle.bits.proofs.Laws.{read-lt}
-use Rattle.standard.specs.Assignment.{extended}
-use Rattle.assignment.specs.Answers.{isValue, endOf}
+use Rattle.cursor.specs.Answers.{isValue, endOf}
 
 is-not : (b : Bool) {t : Bool} → T (not b) → b ≡ t → t ≡ false
 is-not true z e = absurd z
@@ -46,8 +45,8 @@ module _ (w c largest w′ c′ : ℕ) (s : List ℕ) (e p : ℕ) (x : Parsed �
   unfolding extended _>>=_
   goes-on h f z at g = ap (mapParsed (λ more. largest + more)) (g ∙ ap (read w′ c′ s e) at) ∙ (sym (some-more x (is-so b z f)) ∙ ap onward h)
 
--- the largest value and what its further bits spell fit a u32
-pub sum-fits : (largest w′ c′ : ℕ) (s : List ℕ) (e p : ℕ) {x : Parsed ℕ} → w′ ≤ 17 → largest < 2 ^ 17 → x ≡ read w′ c′ s e p → (n q : ℕ) → x ≡ got n q → largest + n < 2 ^ 32
-sum-fits largest w′ c′ s e p l m h n q g =
+-- what the further bits spell is below 2 to the 17th
+pub more-lt : (w′ c′ : ℕ) (s : List ℕ) (e p : ℕ) {x : Parsed ℕ} → w′ ≤ 17 → x ≡ read w′ c′ s e p → (n q : ℕ) → x ≡ got n q → n < 2 ^ 17
+more-lt w′ c′ s e p l h n q g =
     let f = subst (Ok (λ v. v < 2 ^ w′)) (sym h ∙ g) (read-lt w′ c′ .ok s e p) in
     omega (arith, f, pow-mono l)

@@ -1,4 +1,4 @@
--- `assignment::beds::parse_bed_channels` meets its contract: the tables of widths spell the beds of the definitions.
+-- `assignment::channels::parse_bed_channels` meets its contract: the tables of widths spell the beds of the definitions.
 use mathlib.Core.Bool.{cond}
 use mathlib.Core.Path.{_≡_}
 use borrow.Author.Needs.{needs}
@@ -8,11 +8,11 @@ use Rattle.standard.specs.Contexts as context
 use Rattle.standard.specs.Assignment.{chosen, standardBeds, nonstandardBeds}
 use Rattle.assignment.specs.Kinds.{onto}
 use Rattle.assignment.specs.Parts.{bedChannels, channelKind, channels}
-use Rattle.assignment.proofs.beds.parse_bed_channels.Statement.{statement}
-use Rattle.assignment.proofs.beds.parse_bed_channels.Tie as tie
+use Rattle.assignment.proofs.channels.parse_bed_channels.Statement.{statement}
+use Rattle.assignment.proofs.channels.parse_bed_channels.Tie as tie
 
 at-standard : (c : tie.After-standard) →
-    let a = c .before .before .before .before .before .args in
+    let a = c .before .before .before .before .args in
     bedChannels (a .payload .now) (a .limit .0) (a .at .0)
     ≡ cond (c .standard .given .0 .0)
     (mapP (chosen standardBeds) (read 10 context.standard-bed-assignment))
@@ -22,22 +22,22 @@ unfolding bedChannels _>>=_
 at-standard c = rw (← (c .before .before .read-flag .ensures), c .standard .given .1)
 
 returns : tie.Need-returns
-unfolding standardBeds channels channelKind
+unfolding standardBeds channels channelKind mapP
 returns c =
-    let p = c .before .before in
-    let i = p .before .before .before in
-    rw (at-standard (i .before .before), i .if1 .taken) (p .parse-assignment .ensures)
+    let p = c .before in
+    let r = p .before .before .before in
+    rw (at-standard (r .before .before .before), r .before .if1 .taken, ← (r .read .ensures)) (p .assign .ensures)
 
 returns-2 : tie.Need-returns-2
 unfolding bedChannels _>>=_ onto
 returns-2 c = rw (← (c .before .before .before .read-flag .ensures), c .before .refusal .given .1)
 
 returns-3 : tie.Need-returns-3
-unfolding nonstandardBeds channels channelKind
+unfolding nonstandardBeds channels channelKind mapP
 returns-3 c =
-    let p = c .before .before in
-    let i = p .before .before .before in
-    rw (at-standard (i .before .before), i .if1 .left) (p .parse-assignment2 .ensures)
+    let p = c .before in
+    let r = p .before .before .before in
+    rw (at-standard (r .before .before .before), r .before .if1 .left, ← (r .read2 .ensures)) (p .assign2 .ensures)
 
 pub parse-bed-channels-spec : {M : Type 1} → statement M
 parse-bed-channels-spec =
@@ -46,10 +46,12 @@ parse-bed-channels-spec =
     (λ c κs. search needs)
     (λ c. search needs)
     (λ c. search needs)
+    (λ c κs. search needs)
     (λ c. search needs)
     (λ c κs. search needs)
     (λ c. search needs)
     returns
+    (λ c κs. search needs)
     (λ c. search needs)
     (λ c κs. search needs)
     returns-2

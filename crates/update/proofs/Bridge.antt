@@ -15,7 +15,8 @@ use Rattle.standard.specs.Rows.{Row}
 use Rattle.standard.specs.Marks.{settled, unsettled, isSome, absolutelySaid, settles, settlesAll, newMark, rowMark}
 use Rattle.standard.specs.Tables.{isFull}
 use Rattle.standard.specs.Meaning.{orBefore, gainSaid, newGain, newPosition, newPicture, rowPicture, updated}
-use Rattle.update.specs.Passes.{withGain, withPriority, withPicture, withMark, withPosition, withZone, withSize, withScreen, begun, gainPass, priorityPass, levelsPass, basicPass, partsRead, stepsRead, pastDistance, placePass, positionPass, zonePass, sizePass, screenPass, lockPass, groupsPass, renderPass, statePass, rowPass}
+use Rattle.rows.specs.Kinds.{kindOf}
+use Rattle.update.specs.Passes.{withGain, withPriority, withPicture, withMark, withPosition, withZone, withSize, withScreen, begun, gainPass, priorityPass, levelsPass, basicFlags, basicPass, stepsRead, pastDistance, placePass, positionPass, zonePass, sizePass, screenPass, lockPass, groupsPass, renderFlags, renderPass, statePass, rowPass}
 use Rattle.bits.proofs.Makes.{Makes, given as gives, choose, from-here, mapped, bind, after, next, last, at-place, word, said}
 
 -- Basic information
@@ -34,7 +35,7 @@ abbrev basicRow : ℤ → Row → Basic → Row
 basicRow g r b = withPriority (orBefore (b .priority) (r .priority)) (withGain (newGain g (b .gain) (r .gain)) r)
 
 basic-made : (g : ℤ) (r : Row) (at status : ℕ) → Makes (basicRow g r) (basic at status) (basicPass g status r)
-unfolding basic basicPass partsRead levelsPass newGain gainSaid
+unfolding basic basicPass basicFlags levelsPass newGain gainSaid
 basic-made g r at status =
     choose (eqb status 0) (gives _)
     (choose (eqb status 2) (gives _)
@@ -99,7 +100,7 @@ module _ (first : Bool) (r : Row) where
       rw (groups-mark (absolutelySaid p) (isSome z) (isSome n) (isSome s) (r .mark)) (gives _)
 
   render-made : (at status : ℕ) → Makes (renderRow r) (render first at status) (renderPass first status r)
-  unfolding render renderPass partsRead newPicture newMark settlesAll settles
+  unfolding render renderPass renderFlags newPicture newMark settlesAll settles
   render-made at status =
       choose (eqb status 0) (gives _)
       (choose (eqb status 2) (gives _)
@@ -112,15 +113,15 @@ module _ (first : Bool) (g : ℤ) (r : Row) where
       let r₁ = basicRow g (begun k false r) b in
       Makes (λ n. updated k g (active b n) r)
       (cond (isDynamic k) (here >>= λ at. status first context.render-info-status >>= λ s. render first at s) (pure kept))
-      (cond (isDynamic k) (status first context.render-info-status >>= λ s. renderPass first s r₁) (pure r₁))
-  unfolding updated rowPicture rowMark bit
+      (cond (isDynamic (kindOf (r₁ .kind))) (status first context.render-info-status >>= λ s. renderPass first s r₁) (pure r₁))
+  unfolding updated rowPicture rowMark bit kindOf
   rendered lfe b = gives kept
   rendered bed b = gives kept
   rendered isf b = gives kept
   rendered dynamic b = from-here _ λ at. after _ _ _ λ s. render-made first _ at s
 
   state-made : (k : Kind) (at : ℕ) (off : Bool) →
-      Makes (λ u. updated k g u r) (cond off (pure (inactive at)) (activeUpdate k first)) (statePass k first off g (begun k off r))
+      Makes (λ u. updated k g u r) (cond off (pure (inactive at)) (activeUpdate k first)) (statePass first g (begun k off r))
   unfolding activeUpdate statePass updated rowMark newMark settlesAll settles bit
   state-made k at true = gives (inactive at)
   state-made k at false =

@@ -1,4 +1,3 @@
-pub mod KindLaws
 pub mod Numbers
 pub mod Steps
 pub mod Bridge

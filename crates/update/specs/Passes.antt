@@ -8,13 +8,14 @@ use Rattle.bits.specs.Bits.{isSet}
 use Rattle.bits.specs.Parsed.{Parser, _>>=_, _>>_, mapP, pure}
 use Rattle.bits.specs.Reads.{read, flag}
 use Rattle.standard.specs.Contexts as context
-use Rattle.standard.specs.Tree.{Kind, kindCode, isDynamic, Position, Zone, Size, PositionWord}
+use Rattle.standard.specs.Tree.{Kind, kindNumber, isDynamic, Position, Zone, Size, PositionWord}
 use Rattle.standard.specs.Numbers.{silence}
 use Rattle.standard.specs.Updates.{gainWord, priorityWord, differential, absolutely, distance, bit, zoneWord, sized, sizeWord, screenWord, status, tableData}
-use Rattle.standard.specs.Rows.{Picture, Row, defaultPicture}
+use Rattle.standard.specs.Rows.{Picture, Row, defaultPicture, is}
 use Rattle.standard.specs.Marks.{settled, unsettled, isAbsolute}
 use Rattle.standard.specs.Tables.{isFull}
 use Rattle.standard.specs.Meaning.{gainSaid, positionSaid}
+use Rattle.rows.specs.Kinds.{kindOf}
 
 -- A row with one part anew
 
@@ -64,10 +65,6 @@ module _ {A : Type 0} where
   abbrev pub ifSaid : Bool → Parser A → (A → Row) → Row → Parser Row
   ifSaid b m f r = cond b (mapP f m) (pure r)
 
--- which parts are said: status 1 says all, and no flags
-unfoldable pub partsRead : ℕ → ℕ → ℕ → ℕ → Parser ℕ
-partsRead status all width c = cond (eqb status 1) (pure all) (read width c)
-
 -- Basic information; g: the gain of the object before, in the same block
 
 unfoldable pub gainPass : ℤ → ℕ → Row → Parser Row
@@ -82,11 +79,15 @@ levelsPass g flags r = gainPass g flags r >>= priorityPass flags
 abbrev pub silenced : Row → Row
 silenced r = withPriority (pos 0) (withGain silence r)
 
+-- status 1 says both, and no flags
+unfoldable pub basicFlags : ℕ → Parser ℕ
+basicFlags status = cond (eqb status 1) (pure 3) (read 2 context.mixed-basic-info-flags)
+
 unfoldable pub basicPass : ℤ → ℕ → Row → Parser Row
 basicPass g status r =
     cond (eqb status 0) (pure (silenced r))
     (cond (eqb status 2) (pure r) do
-      flags ← partsRead status 3 2 context.mixed-basic-info-flags
+      flags ← basicFlags status
       levelsPass g flags r)
 
 -- Render information
@@ -160,11 +161,15 @@ groupsPass first flags r = do
 abbrev pub reset : Row → Row
 reset r = settle (withPicture defaultPicture r)
 
+-- status 1 says all groups, and no flags
+unfoldable pub renderFlags : ℕ → Parser ℕ
+renderFlags status = cond (eqb status 1) (pure 15) (read 4 context.mixed-render-info-flags)
+
 unfoldable pub renderPass : Bool → ℕ → Row → Parser Row
 renderPass first status r =
     cond (eqb status 0) (pure (reset r))
     (cond (eqb status 2) (pure r) do
-      flags ← partsRead status 15 4 context.mixed-render-info-flags
+      flags ← renderFlags status
       groupsPass first flags r)
 
 -- One object in one block
@@ -173,7 +178,7 @@ renderPass first status r =
 abbrev pub begun : Kind → Bool → Row → Row
 begun k off r =
     record {
-      kind = pos (kindCode k);
+      kind = kindNumber k;
       active = bit (not off);
       gain = r .gain;
       priority = r .priority;
@@ -181,12 +186,12 @@ begun k off r =
       mark = cond (isDynamic k) (r .mark) settled;
     }
 
-unfoldable pub statePass : Kind → Bool → Bool → ℤ → Row → Parser Row
-statePass k first off g r =
-    cond off (pure (silenced r)) do
+unfoldable pub statePass : Bool → ℤ → Row → Parser Row
+statePass first g r =
+    cond (is 0 (r .active)) (pure (silenced r)) do
       s ← status first context.basic-info-status
       r₁ ← basicPass g s r
-      cond (isDynamic k)
+      cond (isDynamic (kindOf (r₁ .kind)))
           (do
             s ← status first context.render-info-status
             renderPass first s r₁)
@@ -195,6 +200,6 @@ statePass k first off g r =
 unfoldable pub rowPass : Kind → Bool → ℤ → Row → Parser Row
 rowPass k first g r = do
   off ← flag context.object-not-active-flag
-  r₁ ← statePass k first off g (begun k off r)
+  r₁ ← statePass first g (begun k off r)
   tableData
   pure r₁

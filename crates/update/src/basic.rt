@@ -1,6 +1,7 @@
 // Basic information: an object's gain and priority.
 ghost use mathlib.Core.Path.{_≡_};
 ghost use Prim.Native.Nat.{_<_};
+ghost use Rattle.bits.specs.Say.{said};
 ghost use Rattle.standard.specs.Updates.{decibels};
 ghost use Rattle.standard.specs.Meaning.{copiedGain};
 ghost use Rattle.rows.specs.Say.{rowSaid};
@@ -12,7 +13,6 @@ use crate::contexts::MIXED_BASIC_INFO_FLAGS;
 use crate::contexts::OBJECT_GAIN;
 use crate::contexts::OBJECT_GAIN_INDEX;
 use crate::contexts::OBJECT_PRIORITY;
-use crate::read_parts;
 use crate::state::silenced;
 use crate::state::with_gain;
 use crate::state::with_priority;
@@ -39,11 +39,21 @@ pub fn parse_basic_info(
     match status {
         0 => Updated::Row(at, silenced(row)),
         2 => Updated::Row(at, row),
-        _ => match read_parts(payload, limit, at, status, 0b11, 2, MIXED_BASIC_INFO_FLAGS) {
+        _ => match read_basic_flags(payload, limit, at, status) {
             Number::Refused(refusal) => Updated::Refused(refusal),
             Number::Value(flags, at) => parse_levels(payload, limit, at, flags, row, previous),
         },
     }
+}
+
+// Status 1 says both; other statuses say by flags which.
+fn read_basic_flags(payload: &[u8], limit: BitPlace, at: BitPlace, status: u32) -> Number
+    ensures { λ r. ⌜ said r ≡ pass.basicFlags status (now (payload .entry)) (limit .0) (at .0) ⌝ }
+{
+    if status == 1 {
+        return Number::Value(0b11, at);
+    }
+    bits::read(payload, limit, at, 2, MIXED_BASIC_INFO_FLAGS)
 }
 
 // The gain, then the priority, each where its flag is set.

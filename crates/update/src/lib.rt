@@ -1,12 +1,11 @@
 // One object in one block: what is read of it, applied at once to the row before.
 ghost use mathlib.Core.Path.{_≡_};
-ghost use Prim.Native.Nat.{_≤_};
 ghost use Rattle.bits.specs.Parsed.{mapParsed};
 ghost use Rattle.bits.specs.Say.{said, saidPassed};
 ghost use Rattle.standard.specs.Updates as standard;
-ghost use Rattle.standard.specs.Meaning.{heldRow, defaultRow, updated};
+ghost use Rattle.standard.specs.Meaning.{updated};
+ghost use Rattle.rows.specs.Kinds.{kindOf};
 ghost use Rattle.rows.specs.Say.{rowSaid};
-ghost use Rattle.update.specs.Kinds.{kindOf};
 ghost use Rattle.update.specs.Passes as pass;
 ghost use Rattle.update.specs.Say.{saidRow};
 
@@ -30,11 +29,8 @@ use contexts::BASIC_INFO_STATUS;
 use contexts::OBJECT_NOT_ACTIVE_FLAG;
 use contexts::RENDER_INFO_STATUS;
 use render::parse_render_info;
-use rows::numbers::SETTLED;
-use rows::numbers::UNSETTLED;
-use rows::row::DYNAMIC;
 use rows::row::Row;
-use rows::row::default_picture;
+use rows::row::is_dynamic;
 use state::begun;
 use state::silenced;
 
@@ -49,7 +45,7 @@ pub fn parse_update(
     payload: &[u8],
     limit: BitPlace,
     at: BitPlace,
-    kind: u8,
+    kind: i16,
     first: bool,
     previous_gain: i16,
     row: Row,
@@ -61,7 +57,7 @@ pub fn parse_update(
         Flag::Is(inactive, at) => {
             let row = begun(row, kind, inactive);
             let previous = PreviousGain(previous_gain);
-            let state = parse_state(payload, limit, at, kind, first, inactive, row, previous);
+            let state = parse_state(payload, limit, at, first, row, previous);
             let Updated::Row(at, row) = state else {
                 return state;
             };
@@ -78,15 +74,13 @@ fn parse_state(
     payload: &[u8],
     limit: BitPlace,
     at: BitPlace,
-    kind: u8,
     first: bool,
-    inactive: bool,
     row: Row,
     previous: PreviousGain,
 ) -> Updated
-    ensures { λ r. ⌜ saidRow r ≡ pass.statePass (kindOf kind) first inactive (previous .0) (rowSaid row) (now (payload .entry)) (limit .0) (at .0) ⌝ }
+    ensures { λ r. ⌜ saidRow r ≡ pass.statePass first (previous .0) (rowSaid row) (now (payload .entry)) (limit .0) (at .0) ⌝ }
 {
-    if inactive {
+    if row.active == 0 {
         return Updated::Row(at, silenced(row));
     }
     match read_status(payload, limit, at, first, BASIC_INFO_STATUS) {
@@ -96,7 +90,7 @@ fn parse_state(
             let Updated::Row(at, row) = levelled else {
                 return levelled;
             };
-            if kind < DYNAMIC as u8 {
+            if !is_dynamic(row.kind) {
                 return Updated::Row(at, row);
             }
             match read_status(payload, limit, at, first, RENDER_INFO_STATUS) {
@@ -119,25 +113,6 @@ fn read_status(payload: &[u8], limit: BitPlace, at: BitPlace, first: bool, conte
     bits::read(payload, limit, at, 2, context)
 }
 
-// Status 1 brings all parts; other statuses say by flags which.
-fn read_parts(
-    payload: &[u8],
-    limit: BitPlace,
-    at: BitPlace,
-    status: u32,
-    all: u32,
-    width: usize,
-    context: u8,
-) -> Number
-    requires { ⌜ width ≤ 17 ⌝ }
-    ensures { λ r. ⌜ said r ≡ pass.partsRead status all width context (now (payload .entry)) (limit .0) (at .0) ⌝ }
-{
-    if status == 1 {
-        return Number::Value(all, at);
-    }
-    bits::read(payload, limit, at, width, context)
-}
-
 fn skip_table_data(payload: &[u8], limit: BitPlace, at: BitPlace) -> Passed
     ensures { λ r. ⌜ saidPassed r ≡ standard.tableData (now (payload .entry)) (limit .0) (at .0) ⌝ }
 {
@@ -156,30 +131,4 @@ fn skip_table_data(payload: &[u8], limit: BitPlace, at: BitPlace) -> Passed
             )
         }
     }
-}
-
-// The row of an object that is new, or whose program has changed.
-pub fn default_row(kind: u8, doubt: i16) -> Row
-    ensures { λ r. ⌜ rowSaid r ≡ defaultRow doubt (kindOf kind) ⌝ }
-{
-    let picture = default_picture();
-    let row = Row {
-        kind: 0,
-        active: 1,
-        gain: 0,
-        priority: 32,
-        picture,
-        mark: SETTLED,
-    };
-    held_row(begun(row, kind, false), doubt)
-}
-
-// In doubt no row is settled.
-pub fn held_row(mut row: Row, doubt: i16) -> Row
-    ensures { λ r. ⌜ rowSaid r ≡ heldRow doubt (rowSaid row) ⌝ }
-{
-    if doubt != 0 {
-        row.mark = UNSETTLED;
-    }
-    row
 }

@@ -1,5 +1,6 @@
 // Render information: an object's picture and its mark.
 ghost use mathlib.Core.Path.{_≡_};
+ghost use Rattle.bits.specs.Say.{said};
 ghost use Rattle.rows.specs.Say.{rowSaid};
 ghost use Rattle.update.specs.Passes as pass;
 ghost use Rattle.update.specs.Say.{saidRow};
@@ -17,7 +18,6 @@ use crate::contexts::SCREEN_FACTOR;
 use crate::contexts::SCREEN_REFERENCE_FLAG;
 use crate::contexts::ZONE_CONSTRAINTS_INDEX;
 use crate::position::parse_position;
-use crate::read_parts;
 use crate::state::mark_or_before;
 use crate::state::settle;
 use crate::state::unsettle;
@@ -47,19 +47,21 @@ pub fn parse_render_info(
     match status {
         0 => Updated::Row(at, reset_render_info(row)),
         2 => Updated::Row(at, row),
-        _ => match read_parts(
-            payload,
-            limit,
-            at,
-            status,
-            0b1111,
-            4,
-            MIXED_RENDER_INFO_FLAGS,
-        ) {
+        _ => match read_render_flags(payload, limit, at, status) {
             Number::Refused(refusal) => Updated::Refused(refusal),
             Number::Value(flags, at) => parse_groups(payload, limit, at, flags, first, row),
         },
     }
+}
+
+// Status 1 says all groups; other statuses say by flags which.
+fn read_render_flags(payload: &[u8], limit: BitPlace, at: BitPlace, status: u32) -> Number
+    ensures { λ r. ⌜ said r ≡ pass.renderFlags status (now (payload .entry)) (limit .0) (at .0) ⌝ }
+{
+    if status == 1 {
+        return Number::Value(0b1111, at);
+    }
+    bits::read(payload, limit, at, 4, MIXED_RENDER_INFO_FLAGS)
 }
 
 fn reset_render_info(mut row: Row) -> Row

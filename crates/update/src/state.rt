@@ -3,18 +3,19 @@ ghost use mathlib.Core.Path.{_≡_};
 ghost use Prim.Native.Nat.{_≤_, _<_};
 ghost use lib.IntN.{pos};
 ghost use Rattle.standard.specs.Updates.{bit, sized};
+ghost use Rattle.rows.specs.Kinds.{kindOf};
 ghost use Rattle.rows.specs.Say.{positionSaid, rowSaid};
-ghost use Rattle.update.specs.Kinds.{kindOf};
 ghost use Rattle.update.specs.Passes as pass;
 use rows::numbers::SETTLED;
 use rows::numbers::SILENCE;
 use rows::numbers::UNSETTLED;
-use rows::row::DYNAMIC;
 use rows::row::Picture;
 use rows::row::Position;
 use rows::row::Row;
 use rows::row::Size;
 use rows::row::Zone;
+use rows::row::is_dynamic;
+use rows::row::kind_of;
 
 pub fn number_of(flag: bool) -> i16
     ensures { λ r. ⌜ r ≡ bit flag ⌝ }
@@ -23,15 +24,13 @@ pub fn number_of(flag: bool) -> i16
 }
 
 // Fixed kinds are settled in every block.
-pub fn begun(mut row: Row, kind: u8, inactive: bool) -> Row
+pub fn begun(mut row: Row, kind: i16, inactive: bool) -> Row
     ensures { λ r. ⌜ rowSaid r ≡ pass.begun (kindOf kind) inactive (rowSaid row) ⌝ }
 {
+    row.kind = kind_of(kind);
     row.active = number_of(!inactive);
-    if kind < DYNAMIC as u8 {
-        row.kind = kind as i16;
+    if !is_dynamic(kind) {
         row.mark = SETTLED;
-    } else {
-        row.kind = DYNAMIC;
     }
     row
 }

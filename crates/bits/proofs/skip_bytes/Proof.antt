@@ -9,7 +9,8 @@ returns-2 : tie.Need-returns-2
 unfolding skipBytes _>>=_
 returns-2 c =
     let v = c .before .before .before in
-    rw (← (v .before .before .read .ensures), v .coded .given .1, ← (c .before .bits .ensures)) (c .skip .ensures _)
+    let r = v .before .before in
+    rw (← (r .read .ensures), v .coded .given .1) (rw (c .before .bits .ensures) at (c .skip .ensures (r .before .before .args .payload .now)))
 
 pub skip-bytes-spec : {M : Type 1} → statement M
 unfolding skipBytes _>>=_

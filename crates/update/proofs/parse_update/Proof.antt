@@ -7,19 +7,19 @@ use mir.Facts.{toZ-ofZ}
 use Rattle.bits.specs.Parsed.{mapParsed, _>>=_, _>>_, pure}
 use Rattle.standard.specs.Updates.{update}
 use Rattle.standard.specs.Meaning.{updated}
+use Rattle.rows.specs.Kinds.{kindOf}
 use Rattle.rows.specs.Say.{rowSaid}
-use Rattle.update.specs.Kinds.{kindOf}
 use Rattle.update.specs.Passes.{rowPass}
 use Rattle.update.proofs.Bridge.{row-fused}
 use Rattle.update.proofs.parse_update.Statement.{statement}
 use Rattle.update.proofs.parse_update.Tie as tie
 
--- the gain before is handed on as its bits
+-- the kind and the gain before are handed on as their bits
 fused : (c : tie.Start) →
     let a = c .args in
     mapParsed (λ u. updated (kindOf (a .kind)) (a .previous-gain) u (rowSaid (a .row))) (update (kindOf (a .kind)) (a .first) (a .payload .now) (a .limit .0) (a .at .0))
-    ≡ rowPass (kindOf (a .kind)) (a .first) (toZ w16 (ofZ w16 (a .previous-gain))) (rowSaid (a .row)) (a .payload .now) (a .limit .0) (a .at .0)
-fused c = rw (toZ-ofZ (c .fits .previous-gain)) (sym (row-fused _ _ _ _ _ _ _))
+    ≡ rowPass (kindOf (toZ w16 (ofZ w16 (a .kind)))) (a .first) (toZ w16 (ofZ w16 (a .previous-gain))) (rowSaid (a .row)) (a .payload .now) (a .limit .0) (a .at .0)
+fused c = rw (toZ-ofZ (c .fits .kind), toZ-ofZ (c .fits .previous-gain)) (sym (row-fused _ _ _ _ _ _ _))
 
 returns : tie.Need-returns
 unfolding rowPass _>>=_ _>>_ pure

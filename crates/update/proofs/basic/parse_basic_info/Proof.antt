@@ -11,13 +11,13 @@ returns-3 : tie.Need-returns-3
 unfolding basicPass _>>=_ pure
 returns-3 c =
     let n = c .before .before .before .before .before .before .args .status in
-    rw (ne-eqb n 0 (omega arith), ne-eqb n 2 (omega arith), ← (c .before .before .before .read-parts .ensures), c .before .refusal .given .1)
+    rw (ne-eqb n 0 (omega arith), ne-eqb n 2 (omega arith), ← (c .before .before .before .read-basic-flags .ensures), c .before .refusal .given .1)
 
 returns-4 : tie.Need-returns-4
 unfolding basicPass _>>=_ pure
 returns-4 c =
     let n = c .before .before .before .before .before .before .before .args .status in
-    rw (ne-eqb n 0 (omega arith), ne-eqb n 2 (omega arith), ← (c .before .before .before .before .read-parts .ensures), c .before .before .flags .given .1) (c .parse-levels .ensures)
+    rw (ne-eqb n 0 (omega arith), ne-eqb n 2 (omega arith), ← (c .before .before .before .before .read-basic-flags .ensures), c .before .before .flags .given .1) (c .parse-levels .ensures)
 
 pub parse-basic-info-spec : {M : Type 1} → statement M
 unfolding basicPass _>>=_ pure

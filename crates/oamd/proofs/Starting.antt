@@ -17,21 +17,21 @@ use Rattle.rows.specs.Places.{rowAt}
 use Rattle.rows.proofs.Written.{written-over, drop-written}
 use Rattle.rows.proofs.Rows.{length-rowsOf, length-rowsNumbers, rows-back}
 use Rattle.rows.proofs.Keeping.{retained-row}
-use Rattle.update.specs.Kinds.{kindOf}
+use Rattle.rows.specs.Kinds.{kindOf}
 use Rattle.oamd.proofs.StartRows.{map-at, same-length, start-at}
 
 pub rows-count : (l : List ℤ) → length (stateOf l .rows) ≡ countOf l
 unfolding stateOf
 rows-count l = length-rowsOf (countOf l) _
 
-module _ (codes : List ℕ) where
-  kind-at : (o : ℕ) → o < length codes → getD (map kindOf codes) o lfe ≡ kindOf (getD codes o 0)
-  kind-at o h = map-at kindOf codes o 0 lfe h
+module _ (codes : List ℤ) where
+  kind-at : (o : ℕ) → o < length codes → getD (map kindOf codes) o lfe ≡ kindOf (getD codes o (pos 0))
+  kind-at o h = map-at kindOf codes o (pos 0) lfe h
 
   -- as many rows as kinds are retained
   pub kind-tested : (l : List ℤ) → countOf l ≡ length codes → (o : ℕ) → o < length codes
       → is (kindCode (getD (map kindOf codes) o lfe)) (getD (stateOf l .rows) o noRow .kind)
-      ≡ is (kindCode (kindOf (getD codes o 0))) (rowAt l (retainedHead + o * rowWidth) .kind)
+      ≡ is (kindCode (kindOf (getD codes o (pos 0)))) (rowAt l (retainedHead + o * rowWidth) .kind)
   kind-tested l e o h = rw (kind-at o h, retained-row l o (omega arith))
 
   pub starts-count : (l : List ℤ) → length (startRows (stateOf l) (map kindOf codes)) ≡ length codes
@@ -55,15 +55,14 @@ module _ (codes : List ℕ) where
 
   pub start-found : (l : List ℤ) (o : ℕ) → o < length codes
       → getD (startRows (stateOf l) (map kindOf codes)) o noRow
-      ≡ cond (sameKinds (map kindOf codes) (stateOf l .rows)) (heldRow (getD l 1 (pos 0)) (rowAt l (retainedHead + o * rowWidth))) (defaultRow (getD l 1 (pos 0)) (kindOf (getD codes o 0)))
-  unfolding stateOf
+      ≡ cond (sameKinds (map kindOf codes) (stateOf l .rows)) (heldRow (stateOf l .doubt) (rowAt l (retainedHead + o * rowWidth))) (defaultRow (stateOf l .doubt) (kindOf (getD codes o (pos 0))))
   start-found l o h =
       let k = length-map codes kindOf in
       start-at (stateOf l) (map kindOf codes) o (omega arith) ∙ rw (kind-at o h) (go (sameKinds (map kindOf codes) (stateOf l .rows)) refl)
     where
       go : (b : Bool) → sameKinds (map kindOf codes) (stateOf l .rows) ≡ b
-          → cond b (heldRow (stateOf l .doubt) (getD (stateOf l .rows) o noRow)) (defaultRow (stateOf l .doubt) (kindOf (getD codes o 0)))
-          ≡ cond b (heldRow (getD l 1 (pos 0)) (rowAt l (retainedHead + o * rowWidth))) (defaultRow (getD l 1 (pos 0)) (kindOf (getD codes o 0)))
+          → cond b (heldRow (stateOf l .doubt) (getD (stateOf l .rows) o noRow)) (defaultRow (stateOf l .doubt) (kindOf (getD codes o (pos 0))))
+          ≡ cond b (heldRow (stateOf l .doubt) (rowAt l (retainedHead + o * rowWidth))) (defaultRow (stateOf l .doubt) (kindOf (getD codes o (pos 0))))
       go true e =
           let k = length-map codes kindOf in
           let j = same-length (map kindOf codes) (stateOf l .rows) e in

@@ -11,15 +11,15 @@ use Rattle.bits.specs.Parsed.{Refusal, Parsed, got, refused, mapParsed}
 use Rattle.bits.specs.Say.{refusal}
 use Rattle.bits.specs.declared.Refusal as said
 use Rattle.standard.specs.Numbers.{payloadLimit}
-use Rattle.standard.specs.Tree.{Kind, kindCode, Tree}
+use Rattle.standard.specs.Tree.{Kind, kindNumber, Tree}
 use Rattle.standard.specs.Rows.{State}
 use Rattle.standard.specs.Meaning.{taken}
 use Rattle.standard.specs.Syntax.{syntax}
 use Rattle.standard.proofs.Counts.{Sized, sized}
 use Rattle.assignment.specs.Kinds.{Assigned}
 use Rattle.assignment.proofs.Laws.{listed}
-use Rattle.update.specs.Kinds.{kindOf}
-use Rattle.update.proofs.KindLaws.{kind-of-code}
+use Rattle.rows.specs.Kinds.{kindOf}
+use Rattle.rows.proofs.KindLaws.{kind-of-number}
 use Rattle.oamd.specs.Whole.{Whole, Lending, payloadIn, wholeOf}
 use Rattle.oamd.specs.Telling.{Telling, outcome}
 use Rattle.oamd.specs.declared.payload.Payload.the-variants.{Refused}
@@ -28,11 +28,11 @@ use Rattle.oamd.proofs.Whole.{payload-in}
 
 -- The kinds: what the first n codes that were left name
 
-codes-kinds : (ks : List Kind) → map kindOf (map kindCode ks) ≡ ks
+codes-kinds : (ks : List Kind) → map kindOf (map kindNumber ks) ≡ ks
 codes-kinds [] = refl
-codes-kinds (k ∷ ks) = λ i. kind-of-code k i ∷ codes-kinds ks i
+codes-kinds (k ∷ ks) = λ i. kind-of-number k i ∷ codes-kinds ks i
 
-pub kinds-read : {m : Parsed (List Kind)} {n : ℕ} {before after : List ℕ} {p : ℕ} → Assigned m n (got tt p) before after → m ≡ got (map kindOf (take n after)) p
+pub kinds-read : {m : Parsed (List Kind)} {n : ℕ} {before after : List ℤ} {p : ℕ} → Assigned m n (got tt p) before after → m ≡ got (map kindOf (take n after)) p
 kinds-read a = let l = listed a in l .gives ∙ rw (l .begins, codes-kinds (l .kinds))
 
 -- Nothing was written

@@ -5,7 +5,7 @@ ghost use lib.IntN.{ℤ};
 ghost use lib.ListN.{length};
 ghost use Prim.Native.Nat.{ℕ};
 ghost use Rattle.standard.specs.Tables.{rowsOf};
-ghost use Rattle.update.specs.Kinds.{kindOf};
+ghost use Rattle.rows.specs.Kinds.{kindOf};
 ghost use Rattle.objects.specs.Element.{Room};
 ghost use Rattle.oamd.specs.Frame.{endIn, objectIn, trimIn, contentIn};
 ghost use Rattle.oamd.specs.Reading.{Framing, framed, lentFrame};
@@ -38,7 +38,7 @@ pub enum Elements {
 pub fn parse_content(
     payload: &[u8],
     head: Head,
-    kinds: &[u8],
+    kinds: &[i16],
     start: &[i16],
     found: Found,
     blocks: &mut [i16],
@@ -64,7 +64,7 @@ pub fn parse_content(
 fn parse_object_content(
     payload: &[u8],
     head: Head,
-    kinds: &[u8],
+    kinds: &[i16],
     start: &[i16],
     found: Found,
     blocks: &mut [i16],

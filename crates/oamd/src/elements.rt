@@ -4,7 +4,7 @@ ghost use mathlib.Core.Option.{none};
 ghost use Prim.Native.Nat.{_<_, _^_};
 ghost use lib.ListN.{length};
 ghost use Rattle.standard.specs.Tables.{rowsOf};
-ghost use Rattle.update.specs.Kinds.{kindOf};
+ghost use Rattle.rows.specs.Kinds.{kindOf};
 ghost use Rattle.objects.specs.Element.{Room};
 ghost use Rattle.oamd.specs.Frame.{elementsIn};
 ghost use Rattle.oamd.specs.Reading.{Framing, lentFrame};
@@ -27,7 +27,7 @@ pub fn parse_elements(
     payload: &[u8],
     limit: BitPlace,
     list: ElementList,
-    kinds: &[u8],
+    kinds: &[i16],
     start: &[i16],
     blocks: &mut [i16],
     timings: &mut [u16],

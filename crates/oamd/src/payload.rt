@@ -7,7 +7,7 @@ ghost use lib.ListN.{length};
 ghost use Rattle.bits.specs.Parsed.{andThen};
 ghost use Rattle.standard.specs.Numbers.{payloadLimit, objectLimit};
 ghost use Rattle.standard.specs.Tables.{stateOf};
-ghost use Rattle.update.specs.Kinds.{kindOf};
+ghost use Rattle.rows.specs.Kinds.{kindOf};
 ghost use Rattle.oamd.specs.Asked.{Held, Roomy};
 ghost use Rattle.oamd.specs.Whole.{finishIn, bodyIn, payloadIn};
 ghost use Rattle.oamd.specs.Reading.{framed};
@@ -78,7 +78,7 @@ fn parse_body(
     payload: &[u8],
     limit: BitPlace,
     at: BitPlace,
-    kinds: &[u8],
+    kinds: &[i16],
     retained: &[i16],
     start: &mut [i16],
     blocks: &mut [i16],

@@ -3,10 +3,9 @@ ghost use mathlib.Core.Path.{_≡_};
 ghost use mathlib.Core.Bool.{cond};
 ghost use mathlib.Core.List.{map};
 ghost use Prim.Native.Nat.{_+_, _*_, _<_, _≤_};
-ghost use lib.IntN.{pos};
-ghost use lib.ListN.{length, getD};
+ghost use lib.ListN.{length};
 ghost use Rattle.standard.specs.Numbers.{rowWidth, objectLimit, retainedHead, startLength};
-ghost use Rattle.standard.specs.Tree.{kindCode, kindNumber};
+ghost use Rattle.standard.specs.Tree.{kindCode};
 ghost use Rattle.standard.specs.Rows.{is};
 ghost use Rattle.standard.specs.Marks.{doubted};
 ghost use Rattle.standard.specs.Meaning.{heldRow, defaultRow, sameKinds, startRows};
@@ -14,7 +13,7 @@ ghost use Rattle.standard.specs.Tables.{rowsNumbers, stateOf};
 ghost use Rattle.standard.specs.Calls.{over};
 ghost use Rattle.rows.specs.Say.{rowSaid};
 ghost use Rattle.rows.specs.Places.{rowAt};
-ghost use Rattle.update.specs.Kinds.{kindOf};
+ghost use Rattle.rows.specs.Kinds.{kindOf};
 ghost use Rattle.oamd.specs.Asked.{Held};
 use rows::numbers::PRIORITY_LIMIT;
 use rows::numbers::RETAINED_HEAD;
@@ -22,14 +21,14 @@ use rows::numbers::ROW_WIDTH;
 use rows::numbers::SETTLED;
 use rows::numbers::UNSETTLED;
 use rows::retained::count_of;
-use rows::row::DYNAMIC;
 use rows::row::Row;
 use rows::row::default_picture;
+use rows::row::kind_of;
 use rows::table::kind_at;
 use rows::table::put_row;
 use rows::table::row_at;
 
-pub fn write_starts(retained: &[i16], kinds: &[u8], start: &mut [i16])
+pub fn write_starts(retained: &[i16], kinds: &[i16], start: &mut [i16])
     requires { ⌜ Held (now retained) × ((length (now kinds) ≤ objectLimit) × (startLength ≤ length (now start))) ⌝ }
     ensures { λ _. ⌜ now (start .exit) ≡ over (rowsNumbers (startRows (stateOf (now (retained .entry))) (map kindOf (now (kinds .entry))))) (now (start .entry)) ⌝ }
 {
@@ -40,7 +39,7 @@ pub fn write_starts(retained: &[i16], kinds: &[u8], start: &mut [i16])
     }
 }
 
-fn same_kinds(retained: &[i16], kinds: &[u8]) -> bool
+fn same_kinds(retained: &[i16], kinds: &[i16]) -> bool
     requires { ⌜ Held (now retained) × (length (now kinds) ≤ objectLimit) ⌝ }
     ensures { λ r. ⌜ r ≡ sameKinds (map kindOf (now (kinds .entry))) (stateOf (now (retained .entry)) .rows) ⌝ }
 {
@@ -48,35 +47,24 @@ fn same_kinds(retained: &[i16], kinds: &[u8]) -> bool
         return false;
     }
     for object in 0..kinds.len() {
-        let kind = kind_at(retained, RETAINED_HEAD + object * ROW_WIDTH);
-        if !is_kind(kind, kinds[object]) {
+        let held = kind_at(retained, RETAINED_HEAD + object * ROW_WIDTH);
+        if !is_kind(held, kinds[object]) {
             return false;
         }
     }
     true
 }
 
-fn is_kind(kind: i16, code: u8) -> bool
-    ensures { λ r. ⌜ r ≡ is (kindCode (kindOf code)) kind ⌝ }
+fn is_kind(held: i16, kind: i16) -> bool
+    ensures { λ r. ⌜ r ≡ is (kindCode (kindOf kind)) held ⌝ }
 {
-    kind == kind_number(code)
-}
-
-// Any code above the fixed kinds is Dynamic.
-fn kind_number(code: u8) -> i16
-    ensures { λ r. ⌜ r ≡ kindNumber (kindOf code) ⌝ }
-{
-    if code < DYNAMIC as u8 {
-        code as i16
-    } else {
-        DYNAMIC
-    }
+    held == kind_of(kind)
 }
 
 // The row that an object begins after: the retained one, where it is held.
-fn start_row(retained: &[i16], object: usize, kind: u8, held: bool) -> Row
+fn start_row(retained: &[i16], object: usize, kind: i16, held: bool) -> Row
     requires { ⌜ Held (now retained) × (object < objectLimit) ⌝ }
-    ensures { λ r. ⌜ rowSaid r ≡ cond held (heldRow (getD (now (retained .entry)) 1 (pos 0)) (rowAt (now (retained .entry)) (retainedHead + object * rowWidth))) (defaultRow (getD (now (retained .entry)) 1 (pos 0)) (kindOf kind)) ⌝ }
+    ensures { λ r. ⌜ rowSaid r ≡ cond held (heldRow (stateOf (now (retained .entry)) .doubt) (rowAt (now (retained .entry)) (retainedHead + object * rowWidth))) (defaultRow (stateOf (now (retained .entry)) .doubt) (kindOf kind)) ⌝ }
 {
     let doubt = retained[1];
     if held {
@@ -94,12 +82,12 @@ fn held_row(mut row: Row, doubt: i16) -> Row
 }
 
 // The row of an object that is new, or whose program has changed.
-fn default_row(kind: u8, doubt: i16) -> Row
+fn default_row(kind: i16, doubt: i16) -> Row
     ensures { λ r. ⌜ rowSaid r ≡ defaultRow doubt (kindOf kind) ⌝ }
 {
     let picture = default_picture();
     Row {
-        kind: kind_number(kind),
+        kind: kind_of(kind),
         active: 1,
         gain: 0,
         priority: PRIORITY_LIMIT,

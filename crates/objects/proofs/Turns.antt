@@ -5,7 +5,7 @@ use mathlib.Core.List.{List, [], _∷_, map}
 use native.Mathlib.Numerals.{add-one}
 use native.Mathlib.Omega.{arith}
 use lib.Dec.{eqb}
-use lib.IntN.{ℤ}
+use lib.IntN.{ℤ, pos}
 use lib.ListN.{length, getD, drop, length-map, drop-of-length-le, List·getD-map}
 use lib.Seq.{drop-cons}
 use Rattle.bits.specs.Parsed.{Parsed, got, andThen, mapParsed, _>>=_, mapP, pure}
@@ -19,7 +19,7 @@ use Rattle.rows.specs.Places.{rowAt, put}
 use Rattle.objects.specs.Fills.{Filling, leaving, Fills}
 use Rattle.objects.specs.Walk.{place, gainBefore, columnFrom, objectsFrom}
 use Rattle.rows.proofs.Puts.{length-put, drop-put}
-use Rattle.update.specs.Kinds.{kindOf}
+use Rattle.rows.specs.Kinds.{kindOf}
 use Rattle.update.specs.Say.{saidRow}
 use Rattle.update.specs.declared.Updated.{Updated}
 use Rattle.objects.proofs.Filling.{to, on}
@@ -53,12 +53,12 @@ put-within {N} {t = t} at r f h =
 
 -- All objects
 
-kinds-next : (codes : List ℕ) (o : ℕ) → o < length codes → drop o (map kindOf codes) ≡ kindOf (getD codes o 0) ∷ drop (o + 1) (map kindOf codes)
+kinds-next : (codes : List ℤ) (o : ℕ) → o < length codes → drop o (map kindOf codes) ≡ kindOf (getD codes o (pos 0)) ∷ drop (o + 1) (map kindOf codes)
 kinds-next codes o h =
     let e = length-map codes kindOf in
-    rw (add-one, drop-cons (map kindOf codes) o (kindOf 0) (omega arith), List·getD-map kindOf codes o 0)
+    rw (add-one, drop-cons (map kindOf codes) o (kindOf (pos 0)) (omega arith), List·getD-map kindOf codes o (pos 0))
 
-module _ (m : ℕ) (codes : List ℕ) (start : List ℤ) (s : List ℕ) (e : ℕ) where
+module _ (m : ℕ) (codes : List ℤ) (start : List ℤ) (s : List ℕ) (e : ℕ) where
   -- the objects from o on
   unfoldable pub objectsLeft : ℕ → List ℤ → ℕ → Parsed (List ℤ)
   objectsLeft o t p = objectsFrom (length codes) m start o (drop o (map kindOf codes)) t s e p
@@ -68,7 +68,7 @@ module _ (m : ℕ) (codes : List ℕ) (start : List ℤ) (s : List ℕ) (e : ℕ
   objects-begun t p = refl
 
   object-more : (o : ℕ) (t : List ℤ) (p : ℕ) → o < length codes
-      → objectsLeft o t p ≡ andThen (columnFrom (length codes) o (kindOf (getD codes o 0)) m 0 (rowAt start (o * rowWidth)) t s e p) (objectsLeft (o + 1))
+      → objectsLeft o t p ≡ andThen (columnFrom (length codes) o (kindOf (getD codes o (pos 0))) m 0 (rowAt start (o * rowWidth)) t s e p) (objectsLeft (o + 1))
   unfolding objectsLeft objectsFrom _>>=_
   object-more o t p h = rw (kinds-next codes o h, add-one)
 
@@ -78,6 +78,6 @@ module _ (m : ℕ) (codes : List ℕ) (start : List ℤ) (s : List ℕ) (e : ℕ
 
   -- object o was read in all its blocks, or refused
   pub object-read : (N : ℕ) {m₀ : Parsed (List ℤ)} {t₀ t t′ : List ℤ} {r r′ : Passed} (o p : ℕ) → Filling N m₀ t₀ (objectsLeft o t p) t → o < length codes
-      → Fills N (columnFrom (length codes) o (kindOf (getD codes o 0)) m 0 (rowAt start (o * rowWidth)) t s e p) t r t′ → r ≡ r′
+      → Fills N (columnFrom (length codes) o (kindOf (getD codes o (pos 0))) m 0 (rowAt start (o * rowWidth)) t s e p) t r t′ → r ≡ r′
       → Filling N m₀ t₀ (andThen (leaving t′ r′) (objectsLeft (o + 1))) t′
   object-read N {t = t} {t′} o p f h g x = on (leaving t′) (objectsLeft (o + 1)) (to f (object-more o t p h)) g (omega arith) x

@@ -3,7 +3,7 @@ ghost use mathlib.Core.List.{map};
 ghost use lib.ListN.{length};
 ghost use Rattle.standard.specs.Syntax.{objectElement};
 ghost use Rattle.standard.specs.Tables.{rowsOf};
-ghost use Rattle.update.specs.Kinds.{kindOf};
+ghost use Rattle.rows.specs.Kinds.{kindOf};
 ghost use Rattle.objects.specs.Element.{Room, ReadElement};
 use crate::timings::parse_block_timings;
 use crate::walk::parse_objects;
@@ -26,7 +26,7 @@ pub fn parse_object_element(
     payload: &[u8],
     limit: BitPlace,
     at: BitPlace,
-    kinds: &[u8],
+    kinds: &[i16],
     start: &[i16],
     blocks: &mut [i16],
     timings: &mut [u16],

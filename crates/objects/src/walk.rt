@@ -5,7 +5,7 @@ ghost use Prim.Native.Nat.{_+_, _*_, _≤_, _<_, _^_};
 ghost use lib.ListN.{length};
 ghost use Rattle.standard.specs.Numbers.{rowWidth};
 ghost use Rattle.rows.specs.Say.{rowSaid};
-ghost use Rattle.update.specs.Kinds.{kindOf};
+ghost use Rattle.rows.specs.Kinds.{kindOf};
 ghost use Rattle.objects.specs.Fills.{Fills};
 ghost use Rattle.objects.specs.Walk.{place, gainBefore, columnFrom, objectsFrom};
 use bits::BitPlace;
@@ -18,8 +18,9 @@ use rows::table::row_at;
 use update::Updated;
 use update::parse_update;
 
-// The rows of one object: its place among so many objects, in each of so many blocks.
+// The rows of one object, of a kind: its place among so many objects, in each of so many blocks.
 struct Column {
+    kind: i16,
     object: usize,
     objects: usize,
     blocks: usize,
@@ -30,7 +31,7 @@ pub fn parse_objects(
     payload: &[u8],
     limit: BitPlace,
     at: BitPlace,
-    kinds: &[u8],
+    kinds: &[i16],
     block_count: usize,
     start: &[i16],
     blocks: &mut [i16],
@@ -40,13 +41,15 @@ pub fn parse_objects(
 {
     let mut place = at;
     for object in 0..kinds.len() {
+        let kind = kinds[object];
         let column = Column {
+            kind,
             object,
             objects: kinds.len(),
             blocks: block_count,
         };
         let first = row_at(start, object * ROW_WIDTH);
-        match parse_object(payload, limit, place, kinds[object], column, first, blocks) {
+        match parse_object(payload, limit, place, column, first, blocks) {
             Passed::Refused(refusal) => return Passed::Refused(refusal),
             Passed::To(next) => place = next,
         }
@@ -59,19 +62,18 @@ fn parse_object(
     payload: &[u8],
     limit: BitPlace,
     at: BitPlace,
-    kind: u8,
     column: Column,
     first: Row,
     blocks: &mut [i16],
 ) -> Passed
     requires { ⌜ (column .object < column .objects) × (column .blocks * column .objects * rowWidth ≤ length (now blocks)) ⌝ }
-    ensures { λ r. ⌜ Fills (column .blocks * column .objects * rowWidth) (columnFrom (column .objects) (column .object) (kindOf kind) (column .blocks) 0 (rowSaid first) (now (blocks .entry)) (now (payload .entry)) (limit .0) (at .0)) (now (blocks .entry)) r (now (blocks .exit)) ⌝ }
+    ensures { λ r. ⌜ Fills (column .blocks * column .objects * rowWidth) (columnFrom (column .objects) (column .object) (kindOf (column .kind)) (column .blocks) 0 (rowSaid first) (now (blocks .entry)) (now (payload .entry)) (limit .0) (at .0)) (now (blocks .entry)) r (now (blocks .exit)) ⌝ }
 {
     let mut row = first;
     let mut place = at;
     for block in 0..column.blocks {
         let gain = gain_before(blocks, column, block);
-        match parse_update(payload, limit, place, kind, block == 0, gain, row) {
+        match parse_update(payload, limit, place, column.kind, block == 0, gain, row) {
             Updated::Refused(refusal) => return Passed::Refused(refusal),
             Updated::Row(next, state) => {
                 put_row(blocks, row_place(column, block), state);

@@ -12,7 +12,7 @@ use Rattle.bits.proofs.Laws.{gives}
 use Rattle.standard.specs.Numbers.{rowWidth, blocksLength, timingsLength}
 use Rattle.standard.specs.Syntax.{objectElement}
 use Rattle.standard.specs.Tables.{rowsOf}
-use Rattle.update.specs.Kinds.{kindOf}
+use Rattle.rows.specs.Kinds.{kindOf}
 use Rattle.objects.specs.Fills.{Filling}
 use Rattle.objects.specs.Element.{timedBy, timedAs, blockTimings}
 use Rattle.objects.specs.Walk.{objectsFrom}
@@ -21,9 +21,17 @@ use Rattle.objects.proofs.Parts.{few-timed, fit, left, leftBy, element-
 use Rattle.objects.proofs.parse_object_element.Statement.{statement}
 use Rattle.objects.proofs.parse_object_element.Tie as tie
 
+-- back from the timings
+
+abbrev entry : tie.After-parse-block-timings → tie.Start
+entry c = c .before .before .before .before
+
+abbrev timed : tie.After-block-count → tie.After-parse-block-timings
+timed c = c .before .before .before .before
+
 -- what is left to read goes by what stands before the objects
 at-head : (c : tie.After-parse-block-timings) {r : Number} → c .parse-block-timings .result ≡ r →
-    let a = c .before .before .before .before .before .args in
+    let a = entry c .args in
     let n = length (a .kinds .now) in
     let ks = map kindOf (a .kinds .now) in
     let t = c .parse-block-timings .last .1 .1 .1 .0 in
@@ -31,7 +39,7 @@ at-head : (c : tie.After-parse-block-timings) {r : Number} → c .parse-block-ti
     (andThen (timedAs t r) (λ h q. mapParsed (left (h .count) (h .table)) (objectsFrom n (h .count) (a .start .now) 0 ks (a .blocks .now) (a .payload .now) (a .limit .0) q)))
     t
 at-head c e =
-    let start = c .before .before .before .before .before in
+    let start = entry c in
     let room = start .pre in
     on (timedAs _) _ (begin (element-read _ _ _ _ _ _ _ _ (length-map (start .args .kinds .now) kindOf) (room .few) (room .forBlocks))) (c .parse-block-timings .ensures) (omega arith) e
 
@@ -40,20 +48,20 @@ cut-timings c = element-left _ _ (at-head (c .before .before .before .before .be
 
 -- the rows fit their table
 used : (c : tie.After-block-count) →
-    let a = c .before .before .before .before .before .before .before .before .before .args in
+    let a = entry (timed c) .args in
     c .block-count .given .0 .0 * length (a .kinds .now) * rowWidth ≤ blocksLength
 unfolding mapP
 used c =
-    let h = c .before .before .before .before in
-    let a = h .before .before .before .before .before .args in
-    fit _ _ (gives (timedAs _) (few-timed _) (sym {a = mapP (timedBy (a .timings .now)) blockTimings (a .payload .now) (a .limit .0) (a .at .0)} (h .parse-block-timings .ensures .same)) (c .block-count .given .1)) (h .before .before .before .before .before .pre .few)
+    let h = timed c in
+    let a = entry h .args in
+    fit _ _ (gives (timedAs _) (few-timed _) (sym {a = mapP (timedBy (a .timings .now)) blockTimings (a .payload .now) (a .limit .0) (a .at .0)} (h .parse-block-timings .ensures .same)) (c .block-count .given .1)) (entry h .pre .few)
 
 parse-objects-requires : tie.Need-parse-objects-requires
 parse-objects-requires c κs = let u = used (c .before .before) in search needs
 
 abbrev objects-read : tie.After-block-count → Parsed (List ℤ)
 objects-read c =
-    let a = c .before .before .before .before .before .before .before .before .before .args in
+    let a = entry (timed c) .args in
     let b = c .block-count .given .0 in
     objectsFrom (length (a .kinds .now)) (b .0) (a .start .now) 0 (map kindOf (a .kinds .now)) (a .blocks .now) (a .payload .now) (a .limit .0) (b .1 .0 .0)
 
@@ -61,13 +69,13 @@ cut-objects : tie.Need-returns-2
 cut-objects c =
     let o = c .before .before .before .before in
     let b = o .before .before .before in
-    objects-left {x = objects-read b} _ _ _ (at-head (b .before .before .before .before) (b .block-count .given .1)) (o .parse-objects .ensures) (used b) (c .before .refusal2 .given .1) refl
+    objects-left {x = objects-read b} _ _ _ (at-head (timed b) (b .block-count .given .1)) (o .parse-objects .ensures) (used b) (c .before .refusal2 .given .1) refl
 
 all : tie.Need-returns-3
 all c =
     let o = c .before .before .before .before in
     let b = o .before .before .before in
-    objects-left {x = objects-read b} _ _ _ (at-head (b .before .before .before .before) (b .block-count .given .1)) (o .parse-objects .ensures) (used b) (c .before .end .given .1) refl
+    objects-left {x = objects-read b} _ _ _ (at-head (timed b) (b .block-count .given .1)) (o .parse-objects .ensures) (used b) (c .before .end .given .1) refl
 
 pub parse-object-element-spec : {M : Type 1} → statement M
 parse-object-element-spec =

@@ -3,7 +3,7 @@ use borrow.Author.Needs.{needs}
 use borrow.Author.Tests.{ne-eqb}
 use lib.ListN.{length-map}
 use Rattle.bits.specs.Parsed.{pure}
-use Rattle.update.specs.Kinds.{kindOf}
+use Rattle.rows.specs.Kinds.{kindOf}
 use Rattle.oamd.specs.Frame.{contentIn}
 use Rattle.oamd.proofs.ElementsFraming.{unwritten}
 use Rattle.oamd.proofs.content.parse_content.Statement.{statement}
@@ -19,7 +19,7 @@ trim : tie.Need-returns-2
 unfolding contentIn
 trim c =
     let m = c .before in
-    unwritten (rw (m .match .keys2, length-map (m .before .before .before .before .args .kinds .now) kindOf) (c .parse-trim-content .ensures _ _))
+    unwritten (rw (m .match .keys2, length-map (m .before .before .before .args .kinds .now) kindOf) (c .parse-trim-content .ensures _ _))
 
 unknown : tie.Need-returns-3
 unfolding contentIn pure

@@ -5,7 +5,7 @@ use native.Mathlib.Omega.{arith}
 use borrow.Author.Needs.{needs}
 use lib.ListN.{length}
 use Rattle.standard.specs.Tables.{rowsOf}
-use Rattle.update.specs.Kinds.{kindOf}
+use Rattle.rows.specs.Kinds.{kindOf}
 use Rattle.oamd.specs.Frame.{elementsIn}
 use Rattle.oamd.specs.Reading.{lentFrame}
 use Rattle.oamd.specs.Say.{saidFound}
@@ -28,7 +28,7 @@ abbrev μ-loop : tie.MeasureT-loop
 -- back from what was read of an element
 
 abbrev entry : tie.In-loop Inv-loop μ-loop → tie.Start Inv-loop μ-loop
-entry c = c .before .before .before .before .before .before
+entry c = c .before .before .before .before .before
 
 abbrev looped : tie.After-head Inv-loop μ-loop → tie.In-loop Inv-loop μ-loop
 looped c = c .before .before .before

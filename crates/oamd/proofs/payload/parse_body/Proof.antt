@@ -10,7 +10,7 @@ use Rattle.standard.specs.Numbers.{rowWidth, objectLimit, startLength}
 use Rattle.standard.specs.Meaning.{startRows}
 use Rattle.standard.specs.Tables.{rowsNumbers, rowsOf, stateOf}
 use Rattle.standard.specs.Calls.{over}
-use Rattle.update.specs.Kinds.{kindOf}
+use Rattle.rows.specs.Kinds.{kindOf}
 use Rattle.oamd.specs.Whole.{bodyIn}
 use Rattle.oamd.proofs.Starting.{starts-back, starts-rest}
 use Rattle.oamd.proofs.Telling.{untold}
@@ -18,7 +18,7 @@ use Rattle.oamd.proofs.payload.parse_body.Statement.{statement}
 use Rattle.oamd.proofs.payload.parse_body.Tie as tie
 
 abbrev entry : tie.After-write-starts → tie.Start
-entry c = c .before .before .before .before .before .before .before .before .before .before .before .before .before
+entry c = c .before .before .before .before .before .before .before .before .before .before .before .before
 
 abbrev written : tie.After-write-starts → List ℤ
 written c =

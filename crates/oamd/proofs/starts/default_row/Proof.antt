@@ -9,9 +9,9 @@ use Rattle.oamd.proofs.starts.default_row.Tie as tie
 returns : tie.Need-returns
 unfolding defaultRow
 returns c =
-    let k = c .before .kind-number in
+    let k = c .before .kind-of in
     let p = c .before .before in
-    rw (back {z = k .result} (k .ok), k .ensures, p .default-picture .ensures, back {z = c .doubted .result} (c .doubted .ok), c .doubted .ensures, toZ-ofZ (p .before .fits .doubt))
+    rw (back {z = k .result} (k .ok), k .ensures, toZ-ofZ (p .before .fits .kind), p .default-picture .ensures, back {z = c .doubted .result} (c .doubted .ok), c .doubted .ensures, toZ-ofZ (p .before .fits .doubt))
 
 pub default-row-spec : {M : Type 1} → statement M
 default-row-spec = tie.close (tie.spec (λ c κs. search needs) (λ c κs. search needs) (λ c κs. search needs) returns)

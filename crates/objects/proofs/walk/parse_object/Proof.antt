@@ -4,14 +4,13 @@ use mathlib.Core.Path.{_≡_, _∙_}
 use native.Mathlib.Omega.{arith}
 use borrow.Author.Needs.{needs}
 use lib.Dec.{eqb}
-use mir.Syntax.{w16}
-use mir.Facts.{toZ-ofZ}
 use Rattle.bits.specs.Parsed.{mapParsed}
 use Rattle.standard.specs.Numbers.{rowWidth}
 use Rattle.standard.specs.Updates.{update}
 use Rattle.standard.specs.Meaning.{updated}
 use Rattle.rows.specs.Say.{rowSaid}
-use Rattle.update.specs.Kinds.{kindOf}
+use Rattle.rows.specs.Kinds.{kindOf}
+use Rattle.rows.proofs.Tests.{back}
 use Rattle.update.specs.Say.{saidRow}
 use Rattle.objects.specs.Fills.{Filling}
 use Rattle.objects.specs.Walk.{place, gainBefore, columnFrom}
@@ -22,13 +21,13 @@ use Rattle.objects.proofs.walk.parse_object.Statement.{statement}
 use Rattle.objects.proofs.walk.parse_object.Tie as tie
 
 abbrev Inv-loop : tie.InvT-loop
-Inv-loop payload limit kind column blocks₀ row₀ place₀ block₀ end blocks row place block =
+Inv-loop payload limit column blocks₀ row₀ place₀ block₀ end blocks row place block =
     let n = column .objects in
     let m = column .blocks in
-    (block ≤ m) × Filling (m * n * rowWidth) (columnFrom n (column .object) (kindOf kind) m 0 (rowSaid row₀) blocks₀ payload (limit .0) (place₀ .0)) blocks₀ (columnFrom n (column .object) (kindOf kind) (m - block) block (rowSaid row) blocks payload (limit .0) (place .0)) blocks
+    (block ≤ m) × Filling (m * n * rowWidth) (columnFrom n (column .object) (kindOf (column .kind)) m 0 (rowSaid row₀) blocks₀ payload (limit .0) (place₀ .0)) blocks₀ (columnFrom n (column .object) (kindOf (column .kind)) (m - block) block (rowSaid row) blocks payload (limit .0) (place .0)) blocks
 
 abbrev μ-loop : tie.MeasureT-loop
-μ-loop payload limit kind column blocks₀ row₀ place₀ block₀ end blocks row place block = column .blocks - block
+μ-loop payload limit column blocks₀ row₀ place₀ block₀ end blocks row place block = column .blocks - block
 
 loop-holds : tie.Need-loop-holds Inv-loop μ-loop
 loop-holds c =
@@ -36,47 +35,63 @@ loop-holds c =
     let k : m - 0 ≡ m = omega arith in
     (omega arith, begin (rw k))
 
+-- back from a row that was put, from an update, and from a turn of the loop
+
+abbrev read : tie.After-put-row-arg Inv-loop μ-loop → tie.After-next Inv-loop μ-loop
+read c = c .before .before
+
+abbrev turn : tie.After-parse-update Inv-loop μ-loop → tie.In-loop Inv-loop μ-loop
+turn c = c .before .before .before .before
+
+abbrev entry : tie.In-loop Inv-loop μ-loop → tie.Start Inv-loop μ-loop
+entry c = c .before .before .before
+
 -- the row of this block fits the table
 room : (c : tie.In-loop Inv-loop μ-loop) →
-    let k = c .before .before .before .args .column in
+    let k = entry c .args .column in
     place (k .objects) (c .before .loop .block) (k .object) + rowWidth ≤ k .blocks * k .objects * rowWidth
-room c = within _ _ _ _ (c .loop-test .taken) (c .before .before .before .pre .0)
+room c = within _ _ _ _ (c .loop-test .taken) (entry c .pre .0)
 
 -- the answer is what the update makes of the row so far
 row-said : (c : tie.After-parse-update Inv-loop μ-loop) →
-    let a = c .before .before .before .before .before .before .args in
+    let a = entry (turn c) .args in
     let k = a .column in
-    let l = c .before .before .before .before .loop in
+    let l = turn c .before .loop in
     saidRow (c .parse-update .result)
-    ≡ mapParsed (λ u. updated (kindOf (a .kind)) (gainBefore (k .objects) (l .block) (k .object) (l .blocks)) u (rowSaid (l .row))) (update (kindOf (a .kind)) (eqb (l .block) 0) (a .payload .now) (a .limit .0) (l .place .0))
-row-said c = c .parse-update .ensures ∙ rw (toZ-ofZ {w = w16} (record { sfits = c .before .gain-before .ok }), c .before .gain-before .ensures)
+    ≡ mapParsed (λ u. updated (kindOf (k .kind)) (gainBefore (k .objects) (l .block) (k .object) (l .blocks)) u (rowSaid (l .row))) (update (kindOf (k .kind)) (eqb (l .block) 0) (a .payload .now) (a .limit .0) (l .place .0))
+row-said c =
+    let a = entry (turn c) .args in
+    let l = turn c .before .loop in
+    let g = c .before .before .gain-before in
+    let kind = back {z = a .column .kind} (c .before .struct-told .given .0 .1) in
+    let gain = back {z = g .result} (g .ok) ∙ g .ensures in
+    c .parse-update .ensures
+    ∙ (λ i. mapParsed (λ u. updated (kindOf (kind i)) (gain i) u (rowSaid (l .row))) (update (kindOf (kind i)) (eqb (l .block) 0) (a .payload .now) (a .limit .0) (l .place .0)))
 
 returns : tie.Need-returns Inv-loop μ-loop
 returns c =
     let r = c .before .before .before in
-    let l = r .before .before .before in
+    let l = turn r in
     block-read _ _ _ _ _ _ _ _ _ (l .before .loop .inv .1) (l .loop-test .taken) (row-said r) (c .before .refusal .given .1)
 
 row-place-requires : tie.Need-row-place-requires Inv-loop μ-loop
-row-place-requires c κs =
-    let l = c .before .before .before .before .before .before .before in
-    omega (arith, room l, l .before .before .before .good)
+row-place-requires c κs = let l = turn (read c .before .before) in omega (arith, room l, entry l .good)
 
 put-row-requires : tie.Need-put-row-requires Inv-loop μ-loop
 put-row-requires c κs =
-    let l = c .before .before .before .before .before .before .before .before in
+    let l = turn (read (c .before) .before .before) in
     omega (arith, c .row-place .ensures, room l, l .before .loop .inv .1 .long)
 
 add-block : tie.Need-add-block Inv-loop μ-loop
 add-block c =
-    let l = c .before .before .before .before .before .before .before .before .before .before in
-    omega (arith, l .loop-test .taken, l .before .before .before .good)
+    let l = turn (read (c .before .before .before) .before .before) in
+    omega (arith, l .loop-test .taken, entry l .good)
 
 loop-again : tie.Need-loop-again Inv-loop μ-loop
 loop-again c =
-    let s = c .before .before .before .before .before in
+    let s = read (c .before .before .before) in
     let r = s .before .before in
-    let l = r .before .before .before in
+    let l = turn r in
     (omega arith, rw (c .before .put-row .ensures, c .before .before .row-place .ensures) (put-within _ _ (block-read _ _ _ _ _ _ _ _ _ (l .before .loop .inv .1) (l .loop-test .taken) (row-said r) (s .next .given .1)) (room l)))
 
 returns-2 : tie.Need-returns-2 Inv-loop μ-loop
@@ -92,7 +107,7 @@ parse-object-spec =
     (λ c κs. omega (arith, room (c .before), c .before .before .loop .inv .1 .long))
     (λ c κs. search needs)
     (λ c. search needs)
-    (λ c. c .before .before .before .before .before .before .before .loop .inv .1 .long)
+    (λ c. turn (c .before .before .before) .before .loop .inv .1 .long)
     returns
     (λ c. search needs)
     row-place-requires

@@ -4,10 +4,12 @@ use mathlib.Core.Path.{_∙_}
 use mathlib.Core.List.{map}
 use native.Mathlib.Omega.{arith}
 use borrow.Author.Needs.{needs}
+use lib.IntN.{pos}
 use lib.ListN.{length, getD}
 use Rattle.standard.specs.Numbers.{rowWidth}
 use Rattle.rows.specs.Places.{rowAt}
-use Rattle.update.specs.Kinds.{kindOf}
+use Rattle.rows.specs.Kinds.{kindOf}
+use Rattle.rows.proofs.Tests.{back}
 use Rattle.objects.specs.Fills.{Filling, Fills}
 use Rattle.objects.specs.Walk.{columnFrom, objectsFrom}
 use Rattle.objects.proofs.Filling.{begin, to}
@@ -22,25 +24,35 @@ Inv-loop payload limit kinds m start blocks₀ place₀ object₀ end blocks pla
 abbrev μ-loop : tie.MeasureT-loop
 μ-loop payload limit kinds m start blocks₀ place₀ object₀ end blocks place object = length kinds - object
 
+-- back from an object that was read
+
+abbrev turn : tie.After-parse-object Inv-loop μ-loop → tie.In-loop Inv-loop μ-loop
+turn c = c .before .before .before .before
+
+abbrev entry : tie.In-loop Inv-loop μ-loop → tie.Start Inv-loop μ-loop
+entry c = c .before .before .before
+
 -- what the call read is the next object
 object-said : (c : tie.After-parse-object Inv-loop μ-loop) →
-    let a = c .before .before .before .before .before .before .before .before .args in
-    let l = c .before .before .before .before .before .loop in
+    let a = entry (turn c) .args in
+    let l = turn c .before .loop in
     let n = length (a .kinds .now) in
-    Fills (a .block-count * n * rowWidth) (columnFrom n (l .object) (kindOf (getD (a .kinds .now) (l .object) 0)) (a .block-count) 0 (rowAt (a .start .now) (l .object * rowWidth)) (l .blocks) (a .payload .now) (a .limit .0) (l .place .0)) (l .blocks) (c .parse-object .result) (c .parse-object .last .1 .1 .1 .1 .1 .1 .0)
+    Fills (a .block-count * n * rowWidth) (columnFrom n (l .object) (kindOf (getD (a .kinds .now) (l .object) (pos 0))) (a .block-count) 0 (rowAt (a .start .now) (l .object * rowWidth)) (l .blocks) (a .payload .now) (a .limit .0) (l .place .0)) (l .blocks) (c .parse-object .result) (c .parse-object .last .1 .1 .1 .1 .1 .0)
 unfolding rowWidth
-object-said c = rw (← (c .before .before .before .row-at .ensures)) (c .parse-object .ensures)
+object-said c =
+    let l = turn c in
+    rw (← (c .before .before .row-at .ensures), ← back {z = getD (entry l .args .kinds .now) (l .before .loop .object) (pos 0)} (c .before .before .before .kind .given)) (c .parse-object .ensures)
 
 returns : tie.Need-returns Inv-loop μ-loop
 returns c =
     let r = c .before .before .before .before in
-    let l = r .before .before .before .before in
+    let l = turn r in
     object-read _ _ _ _ _ _ _ _ (l .before .loop .inv .1) (l .loop-test .taken) (object-said r) (c .before .refusal .given .1)
 
 loop-again : tie.Need-loop-again Inv-loop μ-loop
 loop-again c =
     let r = c .before .before .before .before in
-    let l = r .before .before .before .before in
+    let l = turn r in
     (omega arith, object-read _ _ _ _ _ _ _ _ (l .before .loop .inv .1) (l .loop-test .taken) (object-said r) (c .before .next .given .1))
 
 returns-2 : tie.Need-returns-2 Inv-loop μ-loop
@@ -49,7 +61,7 @@ returns-2 c = to (c .before .loop .inv .1) (objects-done _ _ _ _ _ _ _ _ (c .loo
 same-length : tie.Need-same-length Inv-loop μ-loop
 same-length c =
     let r = c .before .before .before .before in
-    r .parse-object .ensures .long ∙ r .before .before .before .before .before .loop .inv .1 .long
+    r .parse-object .ensures .long ∙ turn r .before .loop .inv .1 .long
 
 pub parse-objects-spec : {M : Type 1} → statement M
 unfolding rowWidth
@@ -60,8 +72,9 @@ parse-objects-spec =
     μ-loop
     (λ c. (omega arith, begin (objects-begun _ _ _ _ _ _ _)))
     (λ c. omega arith)
-    (λ c κs. omega arith)
     (λ c. omega arith)
+    (λ c. omega arith)
+    (λ c κs. omega arith)
     (λ c κs. search needs)
     (λ c. search needs)
     same-length

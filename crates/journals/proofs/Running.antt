@@ -8,7 +8,7 @@ use lib.ListN.{length, take, drop, length-append, length-drop}
 use lib.Seq.{take-append-seam}
 use Rattle.standard.specs.Calls.{Lent}
 use Rattle.standard.specs.Journal.{Record, Step, whole, more, unknown, step, rest, badMark, journalFrom, journal, replyTo, line, lastLine, linesFrom, printed}
-use Rattle.standard.proofs.JournalCases.{turns-suffice}
+use Rattle.standard.proofs.JournalTurns.{turns-suffice}
 use Rattle.standard.proofs.JournalParts.{whole-stays, unknown-stays, whole-sized, whole-within, after-whole}
 use Rattle.rows.specs.Places.{written}
 use Rattle.rows.proofs.Written.{part-same}

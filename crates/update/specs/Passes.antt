@@ -60,7 +60,7 @@ withLock v r =
     let p = r .picture in
     withPicture (record { position = p .position; zone = p .zone; size = p .size; screen = p .screen; lock = v }) r
 
--- a word that is read where a flag is set, and applied
+-- a word that is read and applied where a flag is set, or else the row r
 module _ {A : Type 0} where
   abbrev pub ifSaid : Bool → Parser A → (A → Row) → Row → Parser Row
   ifSaid b m f r = cond b (mapP f m) (pure r)

@@ -40,11 +40,11 @@ module _ (n o : ℕ) (k : Kind) (s : List ℕ) (e : ℕ) where
   blocks-done m b r t p h = let j : m - b ≡ 0 = omega arith in rw j
 
   -- the update of block b was read, or refused
-  pub block-read : {N : ℕ} {m₀ : Parsed (List ℤ)} {t₀ t : List ℤ} {u u′ : Updated} (m b : ℕ) (r : Row) (p : ℕ)
+  pub block-read : {N : ℕ} {m₀ : Parsed (List ℤ)} {t₀ t : List ℤ} {u u′ : Updated} {k′ : Kind} {g : ℤ} (m b : ℕ) (r : Row) (p : ℕ)
       → Filling N m₀ t₀ (columnFrom n o k (m - b) b r t s e p) t → b < m
-      → saidRow u ≡ mapParsed (λ x. updated k (gainBefore n b o t) x r) (update k (eqb b 0) s e p) → u ≡ u′
+      → saidRow u ≡ mapParsed (λ x. updated k′ g x r) (update k′ (eqb b 0) s e p) → k′ ≡ k → g ≡ gainBefore n b o t → u ≡ u′
       → Filling N m₀ t₀ (andThen (saidRow u′) (λ r′ q. columnFrom n o k (m - (b + 1)) (b + 1) r′ (put t (place n b o) r′) s e q)) t
-  block-read {t = t} m b r p f h a g = to f (block-more m b r t p h ∙ rw (← a, g))
+  block-read {t = t} m b r p f h a x y z = to f (block-more m b r t p h ∙ rw (← x, ← y, ← a, z))
 
 -- a row was put within the first N numbers
 pub put-within : {N : ℕ} {m₀ m : Parsed (List ℤ)} {t₀ t : List ℤ} (at : ℕ) (r : Row) → Filling N m₀ t₀ m t → at + rowWidth ≤ N → Filling N m₀ t₀ m (put t at r)

@@ -1,17 +1,14 @@
 -- `objects::walk::parse_object` meets its contract: what is left to read is the later blocks, after the row so far and over the table so far.
 use Prim.Native.Nat.{_+_, _*_, _-_, _≤_}
-use mathlib.Core.Path.{_≡_, _∙_}
+use mathlib.Core.Path.{_≡_, ap, _∙_}
 use native.Mathlib.Omega.{arith}
 use borrow.Author.Needs.{needs}
-use lib.Dec.{eqb}
-use Rattle.bits.specs.Parsed.{mapParsed}
+use mir.Syntax.{w16}
+use mir.Val.{toZ, ofZ}
 use Rattle.standard.specs.Numbers.{rowWidth}
-use Rattle.standard.specs.Updates.{update}
-use Rattle.standard.specs.Meaning.{updated}
 use Rattle.rows.specs.Say.{rowSaid}
 use Rattle.rows.specs.Kinds.{kindOf}
 use Rattle.rows.proofs.Tests.{back}
-use Rattle.update.specs.Say.{saidRow}
 use Rattle.objects.specs.Fills.{Filling}
 use Rattle.objects.specs.Walk.{place, gainBefore, columnFrom}
 use Rattle.objects.proofs.Places.{within}
@@ -52,27 +49,21 @@ room : (c : tie.In-loop Inv-loop μ-loop) →
     place (k .objects) (c .before .loop .block) (k .object) + rowWidth ≤ k .blocks * k .objects * rowWidth
 room c = within _ _ _ _ (c .loop-test .taken) (entry c .pre .0)
 
--- the answer is what the update makes of the row so far
-row-said : (c : tie.After-parse-update Inv-loop μ-loop) →
-    let a = entry (turn c) .args in
-    let k = a .column in
-    let l = turn c .before .loop in
-    saidRow (c .parse-update .result)
-    ≡ mapParsed (λ u. updated (kindOf (k .kind)) (gainBefore (k .objects) (l .block) (k .object) (l .blocks)) u (rowSaid (l .row))) (update (kindOf (k .kind)) (eqb (l .block) 0) (a .payload .now) (a .limit .0) (l .place .0))
-row-said c =
-    let a = entry (turn c) .args in
-    let l = turn c .before .loop in
-    let g = c .before .before .gain-before in
-    let kind = back {z = a .column .kind} (c .before .struct-told .given .0 .1) in
-    let gain = back {z = g .result} (g .ok) ∙ g .ensures in
-    c .parse-update .ensures
-    ∙ (λ i. mapParsed (λ u. updated (kindOf (kind i)) (gain i) u (rowSaid (l .row))) (update (kindOf (kind i)) (eqb (l .block) 0) (a .payload .now) (a .limit .0) (l .place .0)))
+-- the kind and the gain before are handed on as their bits
+kind : (c : tie.After-parse-update Inv-loop μ-loop) → let k = entry (turn c) .args .column .kind in kindOf (toZ w16 (ofZ w16 k)) ≡ kindOf k
+kind c = ap kindOf (back {z = entry (turn c) .args .column .kind} (c .before .struct-told .given .0 .1))
+
+gain : (c : tie.After-gain-before Inv-loop μ-loop) →
+    let l = c .before .before .before .loop in
+    let k = entry (c .before .before) .args .column in
+    toZ w16 (ofZ w16 (c .gain-before .result)) ≡ gainBefore (k .objects) (l .block) (k .object) (l .blocks)
+gain c = back {z = c .gain-before .result} (c .gain-before .ok) ∙ c .gain-before .ensures
 
 returns : tie.Need-returns Inv-loop μ-loop
 returns c =
     let r = c .before .before .before in
     let l = turn r in
-    block-read _ _ _ _ _ _ _ _ _ (l .before .loop .inv .1) (l .loop-test .taken) (row-said r) (c .before .refusal .given .1)
+    block-read _ _ _ _ _ _ _ _ _ (l .before .loop .inv .1) (l .loop-test .taken) (r .parse-update .ensures) (kind r) (gain (r .before .before)) (c .before .refusal .given .1)
 
 row-place-requires : tie.Need-row-place-requires Inv-loop μ-loop
 row-place-requires c κs = let l = turn (read c .before .before) in omega (arith, room l, entry l .good)
@@ -92,7 +83,7 @@ loop-again c =
     let s = read (c .before .before .before) in
     let r = s .before .before in
     let l = turn r in
-    (omega arith, rw (c .before .put-row .ensures, c .before .before .row-place .ensures) (put-within _ _ (block-read _ _ _ _ _ _ _ _ _ (l .before .loop .inv .1) (l .loop-test .taken) (row-said r) (s .next .given .1)) (room l)))
+    (omega arith, rw (c .before .put-row .ensures, c .before .before .row-place .ensures) (put-within _ _ (block-read _ _ _ _ _ _ _ _ _ (l .before .loop .inv .1) (l .loop-test .taken) (r .parse-update .ensures) (kind r) (gain (r .before .before)) (s .next .given .1)) (room l)))
 
 returns-2 : tie.Need-returns-2 Inv-loop μ-loop
 returns-2 c = to (c .before .loop .inv .1) (blocks-done _ _ _ _ _ _ _ _ _ _ (c .loop-test .left))

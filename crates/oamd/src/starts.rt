@@ -15,6 +15,7 @@ ghost use Rattle.rows.specs.Say.{rowSaid};
 ghost use Rattle.rows.specs.Places.{rowAt};
 ghost use Rattle.rows.specs.Kinds.{kindOf};
 ghost use Rattle.oamd.specs.Asked.{Held};
+use rows::numbers::DOUBT;
 use rows::numbers::PRIORITY_LIMIT;
 use rows::numbers::RETAINED_HEAD;
 use rows::numbers::ROW_WIDTH;
@@ -66,7 +67,7 @@ fn start_row(retained: &[i16], object: usize, kind: i16, held: bool) -> Row
     requires { ⌜ Held (now retained) × (object < objectLimit) ⌝ }
     ensures { λ r. ⌜ rowSaid r ≡ cond held (heldRow (stateOf (now (retained .entry)) .doubt) (rowAt (now (retained .entry)) (retainedHead + object * rowWidth))) (defaultRow (stateOf (now (retained .entry)) .doubt) (kindOf kind)) ⌝ }
 {
-    let doubt = retained[1];
+    let doubt = retained[DOUBT];
     if held {
         let row = row_at(retained, RETAINED_HEAD + object * ROW_WIDTH);
         return held_row(row, doubt);

@@ -5,6 +5,7 @@ ghost use Rattle.rows.specs.Promises.{Left, Handed};
 use crate::form::in_form;
 use crate::form::shown_form;
 use crate::numbers::ACCEPTED;
+use crate::numbers::DOUBT;
 use crate::numbers::FORM;
 use crate::numbers::INDEX;
 use crate::numbers::RETAINED_LENGTH;
@@ -33,7 +34,7 @@ pub fn gap(retained: &mut [i16]) -> u32
     if !in_form(retained) {
         return FORM;
     }
-    retained[1] = 1;
+    retained[DOUBT] = 1;
     ACCEPTED
 }
 

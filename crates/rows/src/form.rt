@@ -5,6 +5,8 @@ ghost use lib.ListN.{length, drop};
 ghost use Rattle.standard.specs.Numbers.{rowWidth, retainedHead, retainedLength};
 ghost use Rattle.standard.specs.Tables.{between, isFlag, gainForm, positionForm, zoneForm, sizeForm, pictureForm, samePosition, sameZone, sameSize, samePicture, isDefault, activeForm, fixedForm, shownForm, rowForm, rowsOf, allForm, inForm};
 ghost use Rattle.rows.specs.Say.{positionSaid, zoneSaid, sizeSaid, pictureSaid, rowSaid};
+use crate::numbers::COUNT;
+use crate::numbers::DOUBT;
 use crate::numbers::HEIGHT_LIMIT;
 use crate::numbers::HIGHEST_GAIN;
 use crate::numbers::LOWEST_GAIN;
@@ -178,8 +180,8 @@ pub fn in_form(table: &[i16]) -> bool
     requires { ⌜ retainedLength ≤ length (now table) ⌝ }
     ensures { λ r. ⌜ r ≡ inForm (now (table .entry)) ⌝ }
 {
-    let count = table[0];
-    let doubt = table[1];
+    let count = table[COUNT];
+    let doubt = table[DOUBT];
     let counted = within(0, OBJECT_LIMIT as i16, count);
     let doubted = is_flag(doubt);
     if !(counted & doubted) {

@@ -6,6 +6,10 @@ pub const OBJECT_LIMIT: usize = 128;
 pub const BLOCK_LIMIT: usize = 8;
 
 // The object count and the doubt stand before the rows.
+pub const COUNT: usize = 0;
+
+pub const DOUBT: usize = 1;
+
 pub const RETAINED_HEAD: usize = 2;
 
 pub const START_LENGTH: usize = ROW_WIDTH * OBJECT_LIMIT;

@@ -5,6 +5,7 @@ ghost use lib.ListN.{drop};
 ghost use Rattle.standard.specs.Tables.{rowsOf, stateNumbers};
 ghost use Rattle.standard.specs.Calls.{over};
 ghost use Rattle.rows.specs.Retained.{Countable, Counted, Keepable};
+use crate::numbers::COUNT;
 use crate::numbers::RETAINED_HEAD;
 use crate::numbers::RETAINED_LENGTH;
 use crate::numbers::ROW_WIDTH;
@@ -16,7 +17,7 @@ pub fn count_of(table: &[i16]) -> usize
     requires { ⌜ Countable (now table) ⌝ }
     ensures { λ r. ⌜ Counted (now (table .entry)) r ⌝ }
 {
-    let count = table[0];
+    let count = table[COUNT];
     count as usize
 }
 
@@ -28,5 +29,5 @@ pub fn keep_rows(retained: &mut [i16], blocks: &[i16], from: usize, count: usize
     clear(retained, RETAINED_LENGTH);
     copy(blocks, from, retained, RETAINED_HEAD, count * ROW_WIDTH);
     let number = count as i16;
-    retained[0] = number;
+    retained[COUNT] = number;
 }

@@ -7,7 +7,7 @@ use lib.IntN.{ℤ, pos}
 use lib.Ieee.{Float}
 use lib.ListN.{length, take, drop, replicate, set}
 use Rattle.bits.specs.Parsed.{Parsed, got, refused, Refusal}
-use Rattle.standard.specs.Numbers.{rowWidth, blockLimit, retainedLength, startLength, blocksLength, timingsLength, payloadLimit, frameLength, alone}
+use Rattle.standard.specs.Numbers.{doubtAt, rowWidth, blockLimit, retainedLength, startLength, blocksLength, timingsLength, payloadLimit, frameLength, alone}
 use Rattle.standard.specs.Numbers as number
 use Rattle.standard.specs.Tree.{Tree, kindsOf}
 use Rattle.standard.specs.Syntax.{syntax}
@@ -111,7 +111,7 @@ reset l =
 unfoldable pub gap : List ℤ → Kept
 gap l =
     cond (leb retainedLength (length l))
-    (cond (inForm l) (record { number = number.accepted; retained = set l 1 (pos 1) }) (record { number = number.form; retained = l }))
+    (cond (inForm l) (record { number = number.accepted; retained = set l doubtAt (pos 1) }) (record { number = number.form; retained = l }))
     (record { number = number.room; retained = l })
 
 -- Timing and ramp: two numbers per block

@@ -15,6 +15,12 @@ unfoldable pub blockLimit : ℕ
 blockLimit = 8
 
 -- the object count and the doubt stand before the rows
+abbrev pub countAt : ℕ
+countAt = 0
+
+abbrev pub doubtAt : ℕ
+doubtAt = 1
+
 unfoldable pub retainedHead : ℕ
 retainedHead = 2
 

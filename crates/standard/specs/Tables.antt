@@ -5,7 +5,7 @@ use mathlib.Core.List.{List, [], _∷_, _++_, map}
 use lib.IntN.{ℤ, pos, negℤ, natAbs}
 use lib.Signed.{leZ}
 use lib.ListN.{length, getD, take, drop, replicate}
-use Rattle.standard.specs.Numbers.{rowWidth, objectLimit, retainedHead}
+use Rattle.standard.specs.Numbers.{countAt, doubtAt, rowWidth, objectLimit, retainedHead}
 use Rattle.standard.specs.Numbers.{kindAt, activeAt, gainAt, priorityAt, xAt, yAt, zAt, widthAt, depthAt, heightAt, screenAt, lockAt, zoneAt, elevationAt, markAt}
 use Rattle.standard.specs.Numbers.{sideLimit, heightLimit, sizeLimit, zoneLimit, priorityLimit, lowestGain, highestGain}
 use Rattle.standard.specs.Tree.{kindCode, dynamic, Position, Zone, Size, Timing}
@@ -68,10 +68,10 @@ timingsOf (suc n) l = record { start = getD l 0 0; ramp = getD l 1 0 } ∷ timin
 -- Retained: object count, doubt, rows; behind the count nothing is read, and zeros are written
 
 unfoldable pub countOf : List ℤ → ℕ
-countOf l = natAbs (getD l 0 (pos 0))
+countOf l = natAbs (getD l countAt (pos 0))
 
 unfoldable pub stateOf : List ℤ → State
-stateOf l = record { doubt = getD l 1 (pos 0); rows = rowsOf (countOf l) (drop retainedHead l) }
+stateOf l = record { doubt = getD l doubtAt (pos 0); rows = rowsOf (countOf l) (drop retainedHead l) }
 
 unfoldable pub stateNumbers : State → List ℤ
 stateNumbers st =
@@ -167,7 +167,7 @@ allForm [] = true
 allForm (r ∷ rs) = rowForm r && allForm rs
 
 unfoldable pub inForm : List ℤ → Bool
-inForm l = upTo objectLimit (getD l 0 (pos 0)) && isFlag (getD l 1 (pos 0)) && allForm (stateOf l .rows)
+inForm l = upTo objectLimit (getD l countAt (pos 0)) && isFlag (getD l doubtAt (pos 0)) && allForm (stateOf l .rows)
 
 -- What computing opens
 

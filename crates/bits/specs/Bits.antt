@@ -16,3 +16,9 @@ field s p (suc w) = field s p w * 2 + bitAt s (p + w)
 -- bit i of a number, from the lowest
 unfoldable pub isSet : ℕ → ℕ → Bool
 isSet i v = eqb (v / 2 ^ i % 2) 1
+
+-- What computing opens
+
+unfoldable pub computed : Unit {0}
+unfolding bitAt field isSet
+computed = tt

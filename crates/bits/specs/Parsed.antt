@@ -119,3 +119,9 @@ module _ {A : Type 0} where
 
   unfoldable pub placed : Parser A → Parser (Placed A)
   placed m = λ s e p. mapParsed (placedAt p) (m s e p)
+
+-- What computing opens
+
+unfoldable pub computed : Unit {0}
+unfolding _>>=_ _>>_ mapP pure refuse within refusedAs times optional each here theEnd goTo require placed
+computed = tt

@@ -65,3 +65,9 @@ variableBits w n c = do
   first ← here
   v ← read w c
   laterGroups w c first n v
+
+-- What computing opens
+
+unfoldable pub computed : Unit {0}
+unfolding read flag skip zeros padding signed readSigned extended skipBytes laterGroups variableBits
+computed = tt

@@ -1,7 +1,7 @@
 -- Every definition opened at once, for what is proved by computation: `unfolding computed`. Each file names what it opens.
-use Rattle.bits.specs.Bits.{bitAt, field, isSet}
-use Rattle.bits.specs.Parsed.{_>>=_, _>>_, mapP, pure, refuse, within, refusedAs, times, optional, each, here, theEnd, goTo, require, placed}
-use Rattle.bits.specs.Reads.{read, flag, skip, zeros, padding, signed, readSigned, extended, skipBytes, laterGroups, variableBits}
+use Rattle.bits.specs.Bits as bits
+use Rattle.bits.specs.Parsed as parsed
+use Rattle.bits.specs.Reads as reads
 use Rattle.standard.specs.Numbers as numbers
 use Rattle.standard.specs.Assignment as assignment
 use Rattle.standard.specs.Updates as updates
@@ -19,5 +19,5 @@ use Rattle.standard.specs.Journal as journal
 use Rattle.standard.specs.JournalParts as journalParts
 
 unfoldable pub computed : Unit {0}
-unfolding bitAt field isSet _>>=_ _>>_ mapP pure refuse within refusedAs times optional each here theEnd goTo require placed read flag skip zeros padding signed readSigned extended skipBytes laterGroups variableBits numbers.computed assignment.computed updates.computed syntax.computed rows.computed marks.computed meaning.computed tables.computed timing.computed ramps.computed shown.computed calls.computed events.computed journal.computed journalParts.computed
+unfolding bits.computed parsed.computed reads.computed numbers.computed assignment.computed updates.computed syntax.computed rows.computed marks.computed meaning.computed tables.computed timing.computed ramps.computed shown.computed calls.computed events.computed journal.computed journalParts.computed
 computed = tt

@@ -96,16 +96,28 @@ decode s l =
     (unchanged l number.form))
     (unchanged l number.room)
 
--- Reset and gap
+-- Programme start, reset and gap
 
 pub record Kept : Type 0 where
   pub number : ℕ
   pub retained : List ℤ
 
-unfoldable pub reset : List ℤ → Kept
-reset l =
-    cond (leb retainedLength (length l)) (record { number = number.accepted; retained = over (replicate retainedLength (pos 0)) l })
+-- the retained numbers of a fresh decoder: no objects, no doubt
+abbrev pub zeros : List ℤ
+zeros = replicate retainedLength (pos 0)
+
+-- all retained numbers are written anew, whatever stood there; what lies behind stays
+unfoldable pub renewed : List ℤ → List ℤ → Kept
+renewed new l =
+    cond (leb retainedLength (length l)) (record { number = number.accepted; retained = over new l })
     (record { number = number.room; retained = l })
+
+unfoldable pub programmeStart : List ℤ → Kept
+programmeStart l = renewed zeros l
+
+-- the same but for the doubt
+unfoldable pub reset : List ℤ → Kept
+reset l = renewed (set zeros doubtAt (pos 1)) l
 
 -- the doubt alone changes
 unfoldable pub gap : List ℤ → Kept
@@ -169,5 +181,5 @@ shownCall l i =
 -- What computing opens
 
 unfoldable pub computed : Unit {0}
-unfolding hasRoom accept decline settle decode reset gap timingCall rampCall rowPart rowNumber partCall shownCall
+unfolding hasRoom accept decline settle decode renewed programmeStart reset gap timingCall rampCall rowPart rowNumber partCall shownCall
 computed = tt

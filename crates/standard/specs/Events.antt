@@ -1,16 +1,23 @@
 -- Demand 3's two decoders: what each gets of the same programme, as states and as calls on lent tables.
 use Prim.Native.Nat.{ℕ}
+use mathlib.Core.Bool.{Bool, true, false}
 use mathlib.Core.List.{List, [], _∷_, map}
 use lib.IntN.{ℤ}
 use Rattle.standard.specs.Rows.{State, fresh}
 use Rattle.standard.specs.Meaning.{decoded, gapped}
 use Rattle.standard.specs.Calls.{Lent}
-use Rattle.standard.specs.Journal.{Record, payload, gapNotice, resetNotice, replyTo}
+use Rattle.standard.specs.Journal.{Record, payload, gapNotice, resetNotice, startNotice, replyTo}
+
+-- a reset counts as a gap
+pub data Notice : Type 0 where
+  ofGap ofReset : Notice
 
 pub data Event : Type 0 where
-  resets : Event  -- both
-  heard : List ℕ → Event  -- a payload, by both
-  missed : List ℕ → Event  -- a payload, by the first; the second gets a gap notice
+  starts : Event  -- a programme start, to both
+  heard : List ℕ → Event  -- a payload, to both
+  missed : List ℕ → Event  -- a payload, to the first alone
+  warns : Notice → Event  -- to the second alone
+  warnsBoth : Notice → Event
 
 module _ {A E : Type 0} where
   -- one event after the other
@@ -18,40 +25,83 @@ module _ {A E : Type 0} where
   run f a [] = a
   run f a (e ∷ es) = run f (f a e) es
 
+-- Whether the second can know that it missed something
+
+pub data Following : Type 0 where
+  abreast : Following  -- it missed nothing that it was not warned of
+  warned : Following  -- it got a notice, and no payload since
+  astray : Following  -- it missed a payload, and got no notice since the last one that it heard
+
+unfoldable pub follow : Following → Event → Following
+follow f starts = abreast
+follow f (warns n) = warned
+follow f (warnsBoth n) = warned
+follow astray (heard s) = astray
+follow abreast (heard s) = abreast
+follow warned (heard s) = abreast
+follow warned (missed s) = warned
+follow abreast (missed s) = astray
+follow astray (missed s) = astray
+
+abbrev pub isAstray : Following → Bool
+isAstray abreast = false
+isAstray warned = false
+isAstray astray = true
+
+-- after these events, which begin with both alike
+abbrev pub goneAstray : List Event → Bool
+goneAstray es = isAstray (run follow abreast es)
+
 -- As states
 
+unfoldable pub noticed : Notice → State → State
+noticed ofGap st = gapped st
+noticed ofReset st = gapped fresh
+
 unfoldable pub first : State → Event → State
-first st resets = fresh
+first st starts = fresh
 first st (heard s) = decoded st s
 first st (missed s) = decoded st s
+first st (warns n) = st
+first st (warnsBoth n) = noticed n st
 
 unfoldable pub second : State → Event → State
-second st resets = fresh
+second st starts = fresh
 second st (heard s) = decoded st s
-second st (missed s) = gapped st
+second st (missed s) = st
+second st (warns n) = noticed n st
+second st (warnsBoth n) = noticed n st
 
 -- As calls: the tables that a record leaves
 
 unfoldable pub after : Lent → Record → Lent
 after l r = replyTo l r .lent
 
-unfoldable pub firstGets : Event → Record
-firstGets resets = resetNotice
-firstGets (heard s) = payload s
-firstGets (missed s) = payload s
+unfoldable pub noticeOf : Notice → Record
+noticeOf ofGap = gapNotice
+noticeOf ofReset = resetNotice
 
-unfoldable pub secondGets : Event → Record
-secondGets resets = resetNotice
-secondGets (heard s) = payload s
-secondGets (missed s) = gapNotice
+unfoldable pub firstGets : Event → List Record
+firstGets starts = startNotice ∷ []
+firstGets (heard s) = payload s ∷ []
+firstGets (missed s) = payload s ∷ []
+firstGets (warns n) = []
+firstGets (warnsBoth n) = noticeOf n ∷ []
+
+unfoldable pub secondGets : Event → List Record
+secondGets starts = startNotice ∷ []
+secondGets (heard s) = payload s ∷ []
+secondGets (missed s) = []
+secondGets (warns n) = noticeOf n ∷ []
+secondGets (warnsBoth n) = noticeOf n ∷ []
 
 -- Threaded: each call is lent all four tables as the last one left them
 
 unfoldable pub firstCall : Lent → Event → Lent
-firstCall l e = after l (firstGets e)
+firstCall l e = run after l (firstGets e)
 
 unfoldable pub secondCall : Lent → Event → Lent
-secondCall l e = after l (secondGets e)
+secondCall l e = run after l (secondGets e)
 
 -- In turns: each call is lent the retained table that the last one left, and any frame tables beside it
 
@@ -85,5 +135,5 @@ secondTurn l t = secondCall (lend (t .two) l) (t .event) .retained
 -- What computing opens
 
 unfoldable pub computed : Unit {0}
-unfolding first second run after firstGets secondGets firstCall secondCall firstTurn secondTurn
+unfolding run follow noticed first second after noticeOf firstGets secondGets firstCall secondCall firstTurn secondTurn
 computed = tt

@@ -5,14 +5,14 @@ use mathlib.Core.List.{List, [], _∷_, _++_}
 use lib.Dec.{eqb, leb, ltb}
 use lib.IntN.{ℤ, pos}
 use lib.ListN.{length, take, drop, replicate}
-use Rattle.standard.specs.Numbers.{retainedLength, startLength, blocksLength, timingsLength, accepted}
-use Rattle.standard.specs.Calls.{Lent, Answer, decode, reset, gap}
+use Rattle.standard.specs.Numbers.{startLength, blocksLength, timingsLength, accepted}
+use Rattle.standard.specs.Calls.{Lent, Answer, decode, zeros, programmeStart, reset, gap}
 
 -- Bytes to records
 
 pub data Record : Type 0 where
   payload : List ℕ → Record
-  gapNotice resetNotice : Record
+  gapNotice resetNotice startNotice : Record
 
 -- What stands at the head of the bytes that have arrived
 pub data Step : Type 0 where
@@ -28,14 +28,15 @@ payloadStep (high ∷ low ∷ s) =
     let n = high * 256 + low in
     cond (leb n (length s)) (whole (payload (take n s)) (n + 4)) more
 
--- 50 4C is a payload, 47 50 a gap, 52 53 a reset
+-- 50 4C is a payload, 47 50 a gap, 52 53 a reset, 50 53 a programme start
 unfoldable pub step : List ℕ → Step
 step [] = more
 step (a ∷ []) = more
 step (a ∷ b ∷ s) =
     cond (eqb a 0x50 && eqb b 0x4c) (payloadStep s)
     (cond (eqb a 0x47 && eqb b 0x50) (whole gapNotice 2)
-    (cond (eqb a 0x52 && eqb b 0x53) (whole resetNotice 2) unknown))
+    (cond (eqb a 0x52 && eqb b 0x53) (whole resetNotice 2)
+    (cond (eqb a 0x50 && eqb b 0x53) (whole startNotice 2) unknown)))
 
 pub data Ending : Type 0 where
   complete : Ending
@@ -80,6 +81,7 @@ pub data Reply : Type 0 where
   answered : Answer → Reply
   noted : Reply
   cleared : Reply
+  started : Reply
 
 pub record Replied : Type 0 where
   pub reply : Reply
@@ -92,12 +94,13 @@ unfoldable pub replyTo : Lent → Record → Replied
 replyTo l (payload s) = let d = decode s l in record { reply = answered (d .answer); lent = d .lent }
 replyTo l gapNotice = record { reply = noted; lent = withRetained l (gap (l .retained) .retained) }
 replyTo l resetNotice = record { reply = cleared; lent = withRetained l (reset (l .retained) .retained) }
+replyTo l startNotice = record { reply = started; lent = withRetained l (programmeStart (l .retained) .retained) }
 
--- the program's own tables, beginning fresh
+-- the program's own tables: all zeros, and then begun with a programme start
 unfoldable pub freshTables : Lent
 freshTables =
     record {
-      retained = replicate retainedLength (pos 0);
+      retained = programmeStart zeros .retained;
       start = replicate startLength (pos 0);
       blocks = replicate blocksLength (pos 0);
       timings = replicate timingsLength 0;
@@ -129,11 +132,12 @@ answerText a =
     (111 ∷ 107 ∷ spaced (a .objects ∷ a .blocks ∷ a .unsettled ∷ []))
     (110 ∷ 111 ∷ spaced (v .number ∷ v .context ∷ v .place ∷ []))
 
--- or `gap`, `reset`
+-- or `gap`, `reset`, `start`
 unfoldable pub replyText : Reply → List ℕ
 replyText (answered a) = answerText a
 replyText noted = 103 ∷ 97 ∷ 112 ∷ []
 replyText cleared = 114 ∷ 101 ∷ 115 ∷ 101 ∷ 116 ∷ []
+replyText started = 115 ∷ 116 ∷ 97 ∷ 114 ∷ 116 ∷ []
 
 -- record number, byte offset, reply
 unfoldable pub line : ℕ → ℕ → Reply → List ℕ

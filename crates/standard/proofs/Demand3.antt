@@ -11,7 +11,7 @@ use Rattle.standard.specs.Tree.{Kind, lfe, bed, isf, dynamic, kindCode, 
 use Rattle.standard.specs.Rows.{Row, State, fresh, defaultPicture, noRow, is}
 use Rattle.standard.specs.Marks.{settled, unsettled, marked}
 use Rattle.standard.specs.Meaning.{defaultRow, heldRow, sameKinds, startRows, rowPicture, updated, objectRows, allRows, gainOf, frameRows, lastRow, lastRows, retain, retainIf, taken, decoded, gapped}
-use Rattle.standard.specs.Events.{Event, resets, heard, missed, first, second, run}
+use Rattle.standard.specs.Events.{Notice, ofGap, ofReset, Event, starts, heard, missed, warns, warnsBoth, run, Following, abreast, warned, astray, follow, isAstray, goneAstray, noticed, first, second}
 use Rattle.standard.proofs.Small.{number-is, Pairs}
 use Rattle.standard.proofs.Starts.{start-each}
 use Rattle.standard.proofs.RowsOfFrame.{last-rows-have}
@@ -55,6 +55,7 @@ pub record StartAgree (a b : Row) : Type 0 where
   pub same : b .mark ≡ settled → Same a b
   pub picture : Settled a b
 
+-- the rows agree unless there is doubt
 pub record Related (a b : State) : Type 0 where
   pub fixed₁ : All Fixed (a .rows)
   pub fixed₂ : All Fixed (b .rows)
@@ -208,26 +209,76 @@ unfolding retainIf
 heard-related a b (got t q) f r = retain-related a b t f r
 heard-related a b (refused x) f r = r
 
-missed-fixed : (a : State) (p : Parsed Tree) → Ok TreeForm p → All Fixed (a .rows) → All Fixed (retainIf a p .rows)
+heard-fixed : (a : State) (p : Parsed Tree) → Ok TreeForm p → All Fixed (a .rows) → All Fixed (retainIf a p .rows)
 unfolding retainIf
-missed-fixed a (got t q) f h = retain-fixed a t f h
-missed-fixed a (refused x) f h = h
+heard-fixed a (got t q) f h = retain-fixed a t f h
+heard-fixed a (refused x) f h = h
 
 fresh-related : Related fresh fresh
 unfolding fresh
 fresh-related = record { fixed₁ = tt; fixed₂ = tt; rows = λ e. tt }
 
-step-related : (a b : State) (e : Event) → Related a b → Related (first a e) (second b e)
-unfolding first second decoded gapped
-step-related a b resets r = fresh-related
-step-related a b (heard s) r = heard-related a b (taken s) (first-block s) r
-step-related a b (missed s) r =
-    record { fixed₁ = missed-fixed a (taken s) (first-block s) (r .fixed₁); fixed₂ = r .fixed₂; rows = λ e. absurd (false≢true e) }
+noticed-fixed : (n : Notice) (st : State) → All Fixed (st .rows) → All Fixed (noticed n st .rows)
+unfolding noticed gapped fresh
+noticed-fixed ofGap st h = h
+noticed-fixed ofReset st h = tt
 
-run-related : (a b : State) (es : List Event) → Related a b → Related (run first a es) (run second b es)
+noticed-doubts : (n : Notice) (st : State) → is 0 (noticed n st .doubt) ≡ false
+unfolding noticed gapped
+noticed-doubts ofGap st = refl
+noticed-doubts ofReset st = refl
+
+-- By how the second follows: abreast, its rows agree unless there is doubt; warned, there is; astray, nothing is known
+abbrev Known : Following → State → State → Type 0
+Known abreast a b = is 0 (b .doubt) ≡ true → Pairs RowAgree (a .rows) (b .rows)
+Known warned a b = is 0 (b .doubt) ≡ false
+Known astray a b = Unit {0}
+
+record Follows (f : Following) (a b : State) : Type 0 where
+  fixed₁ : All Fixed (a .rows)
+  fixed₂ : All Fixed (b .rows)
+  known : Known f a b
+
+related : (f : Following) (a b : State) → isAstray f ≡ false → Follows f a b → Related a b
+related abreast a b e h = record { fixed₁ = h .fixed₁; fixed₂ = h .fixed₂; rows = h .known }
+related warned a b e h = record { fixed₁ = h .fixed₁; fixed₂ = h .fixed₂; rows = λ d. absurd (false≢true (sym (h .known) ∙ d)) }
+related astray a b e h = absurd (false≢true (sym e))
+
+related-follows : (a b : State) → Related a b → Follows abreast a b
+related-follows a b r = record { fixed₁ = r .fixed₁; fixed₂ = r .fixed₂; known = r .rows }
+
+-- a payload that both hear
+heard-follows : (f : Following) (a b : State) (s : List ℕ) → Follows f a b → Follows (follow f (heard s)) (decoded a s) (decoded b s)
+unfolding follow decoded
+heard-follows abreast a b s h = related-follows _ _ (heard-related a b (taken s) (first-block s) (related abreast a b refl h))
+heard-follows warned a b s h = related-follows _ _ (heard-related a b (taken s) (first-block s) (related warned a b refl h))
+heard-follows astray a b s h =
+    record {
+      fixed₁ = heard-fixed a (taken s) (first-block s) (h .fixed₁);
+      fixed₂ = heard-fixed b (taken s) (first-block s) (h .fixed₂);
+      known = tt;
+    }
+
+-- one that the first alone hears
+missed-known : (f : Following) (a a′ b : State) (s : List ℕ) → Known f a b → Known (follow f (missed s)) a′ b
+unfolding follow
+missed-known abreast a a′ b s h = tt
+missed-known warned a a′ b s h = h
+missed-known astray a a′ b s h = tt
+
+step-follows : (f : Following) (a b : State) (e : Event) → Follows f a b → Follows (follow f e) (first a e) (second b e)
+unfolding follow first second decoded
+step-follows f a b starts h = related-follows fresh fresh fresh-related
+step-follows f a b (heard s) h = heard-follows f a b s h
+step-follows f a b (missed s) h =
+    record { fixed₁ = heard-fixed a (taken s) (first-block s) (h .fixed₁); fixed₂ = h .fixed₂; known = missed-known f a (decoded a s) b s (h .known) }
+step-follows f a b (warns n) h = record { fixed₁ = h .fixed₁; fixed₂ = noticed-fixed n b (h .fixed₂); known = noticed-doubts n b }
+step-follows f a b (warnsBoth n) h = record { fixed₁ = noticed-fixed n a (h .fixed₁); fixed₂ = noticed-fixed n b (h .fixed₂); known = noticed-doubts n b }
+
+run-follows : (f : Following) (a b : State) (es : List Event) → Follows f a b → Follows (run follow f es) (run first a es) (run second b es)
 unfolding run
-run-related a b [] r = r
-run-related a b (e ∷ es) r = run-related (first a e) (second b e) es (step-related a b e r)
+run-follows f a b [] h = h
+run-follows f a b (e ∷ es) h = run-follows (follow f e) (first a e) (second b e) es (step-follows f a b e h)
 
 -- what agrees where a payload that says t meets the states a and b
 pub record Agreement (a b : State) (t : Tree) : Type 0 where
@@ -238,6 +289,8 @@ agreed : (a b : State) (p : Parsed Tree) → Ok TreeForm p → Related a b → O
 agreed a b (got t q) f r = record { starts = starts-agree a b (kindsOf t) r; blocks = blocks-agree a b t r f }
 agreed a b (refused x) f r = tt
 
--- After any programme, a payload that both hear finds them in agreement.
-pub demand3 : (es : List Event) (s : List ℕ) → Ok (Agreement (run first fresh es) (run second fresh es)) (taken s)
-demand3 es s = agreed (run first fresh es) (run second fresh es) (taken s) (first-block s) (run-related fresh fresh es fresh-related)
+-- After any programme in which the second has not gone astray, a payload that both hear finds them in agreement.
+pub demand3 : (es : List Event) (s : List ℕ) → goneAstray es ≡ false → Ok (Agreement (run first fresh es) (run second fresh es)) (taken s)
+demand3 es s e =
+    agreed (run first fresh es) (run second fresh es) (taken s) (first-block s)
+    (related (run follow abreast es) (run first fresh es) (run second fresh es) e (run-follows abreast fresh fresh es (related-follows fresh fresh fresh-related)))

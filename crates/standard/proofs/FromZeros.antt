@@ -1,7 +1,7 @@
--- Demand 3 from all zeros, which is a fresh decoder: tables of any sufficient length, all 0.
+-- Demand 3 from all zeros, which are what a programme start writes: tables of any sufficient length, all 0.
 use Prim.Native.Nat.{ℕ, _≤_}
 use mathlib.Core.Path.{_≡_, _∙_, ap}
-use mathlib.Core.Bool.{true}
+use mathlib.Core.Bool.{true, false}
 use mathlib.Core.List.{List}
 use borrow.Author.Tests.{le-leb}
 use lib.Dec.{leb}
@@ -10,10 +10,13 @@ use lib.ListN.{length, replicate, length-replicate}
 use Rattle.bits.proofs.Always.{All}
 use Rattle.standard.specs.Numbers.{retainedLength, startLength, blocksLength, timingsLength}
 use Rattle.standard.specs.Calls.{Lent, decode}
-use Rattle.standard.specs.Events.{Event, run, firstCall, secondCall, Beside, lend, Turn, firstTurn, secondTurn}
-use Rattle.standard.proofs.Tabled.{Enough, FirstRoomy, SecondRoomy, zeros-hold}
+use Rattle.standard.specs.Journal.{withRetained, replyTo}
+use Rattle.standard.specs.Events.{Event, run, goneAstray, after, firstCall, secondCall, Beside, lend, Turn, events, firstTurn, secondTurn}
+use Rattle.standard.proofs.Tabled.{Enough, FirstRoomy, SecondRoomy, start-of-zeros}
+use Rattle.standard.proofs.Marks.{noGap}
+use Rattle.standard.proofs.MarksOnCalls.{FrameSettled}
 use Rattle.standard.proofs.OnCalls.{CallsAgree, demand3-turns}
-use Rattle.standard.proofs.Threaded.{Begins, demand3-threaded}
+use Rattle.standard.proofs.Threaded.{Roomy, begun, demand3-threaded, no-gap-threaded}
 
 -- how long each table is
 pub record Lengths : Type 0 where
@@ -28,33 +31,43 @@ pub record Sufficient (n : Lengths) : Type 0 where
   pub blocks : blocksLength ≤ n .blocks
   pub timings : timingsLength ≤ n .timings
 
-abbrev pub zeros : Lengths → Lent
-zeros n =
+abbrev pub zeroTables : Lengths → Lent
+zeroTables n =
     record { retained = replicate (n .retained) (pos 0); start = replicate (n .start) (pos 0); blocks = replicate (n .blocks) (pos 0); timings = replicate (n .timings) 0 }
 
 filled : {A : Type 0} (k n : ℕ) (a : A) → k ≤ n → leb k (length (replicate n a)) ≡ true
 filled k n a h = ap (leb k) (length-replicate n a) ∙ le-leb k n h
 
--- All zeros is a fresh decoder.
-pub zeros-begin : (n : Lengths) → Sufficient n → Begins (zeros n)
-zeros-begin n h =
+pub zeros-roomy : (n : Lengths) → Sufficient n → Roomy (zeroTables n)
+zeros-roomy n h =
     record {
+      retained = filled retainedLength (n .retained) (pos 0) (h .retained);
       enough = record {
         start = filled startLength (n .start) (pos 0) (h .start);
         blocks = filled blocksLength (n .blocks) (pos 0) (h .blocks);
         timings = filled timingsLength (n .timings) 0 (h .timings);
       };
-      holds = zeros-hold (n .retained) (h .retained);
     }
 
+-- All zeros need no programme start: it would leave them as they are.
+pub zeros-begun : (n : Lengths) → Sufficient n → begun (zeroTables n) ≡ zeroTables n
+unfolding after replyTo
+zeros-begun n h = ap (withRetained (zeroTables n)) (start-of-zeros (n .retained) (h .retained))
+
 -- Demand 3 where each call is lent what the last one left, and the first ones all zeros,
-pub demand3-from-zeros : (n k : Lengths) (es : List Event) (s : List ℕ) → Sufficient n → Sufficient k
-    → CallsAgree (decode s (run firstCall (zeros n) es)) (decode s (run secondCall (zeros k) es))
-demand3-from-zeros n k es s h i = demand3-threaded (zeros n) (zeros k) es s (zeros-begin n h) (zeros-begin k i)
+pub demand3-from-zeros : (n k : Lengths) (es : List Event) (s : List ℕ) → Sufficient n → Sufficient k → goneAstray es ≡ false
+    → CallsAgree (decode s (run firstCall (zeroTables n) es)) (decode s (run secondCall (zeroTables k) es))
+demand3-from-zeros n k es s h i a =
+    rw (zeros-begun n h, zeros-begun k i) at (demand3-threaded (zeroTables n) (zeroTables k) es s (zeros-roomy n h) (zeros-roomy k i) a)
 
 -- and where at each event each side lends frame tables of its own, and retained tables that were all zeros at first.
 pub demand3-turns-from-zeros : (b c : Beside) (n k : ℕ) (ts : List Turn) (s : List ℕ) → Enough b → Enough c → All FirstRoomy ts → All SecondRoomy ts
-    → retainedLength ≤ n → retainedLength ≤ k
+    → retainedLength ≤ n → retainedLength ≤ k → goneAstray (events ts) ≡ false
     → CallsAgree (decode s (lend b (run firstTurn (replicate n (pos 0)) ts))) (decode s (lend c (run secondTurn (replicate k (pos 0)) ts)))
-demand3-turns-from-zeros b c n k ts s hb hc x y h i =
-    demand3-turns b c (replicate n (pos 0)) (replicate k (pos 0)) ts s hb hc x y (zeros-hold n h) (zeros-hold k i)
+demand3-turns-from-zeros b c n k ts s hb hc x y h i a =
+    rw (start-of-zeros n h, start-of-zeros k i) at
+    (demand3-turns b c (replicate n (pos 0)) (replicate k (pos 0)) ts s hb hc x y (filled retainedLength n (pos 0) h) (filled retainedLength k (pos 0) i) a)
+
+-- From all zeros, too, none is unsettled without a gap or a reset.
+pub no-gap-from-zeros : (n : Lengths) (es : List Event) (s : List ℕ) → Sufficient n → noGap es ≡ true → FrameSettled (decode s (run secondCall (zeroTables n) es))
+no-gap-from-zeros n es s h e = rw (zeros-begun n h) at (no-gap-threaded (zeroTables n) es s (zeros-roomy n h) e)

@@ -8,9 +8,9 @@ use borrow.Author.Tests.{le-leb, leb-true}
 use lib.Dec.{leb, eqb}
 use lib.ListN.{length, take, drop, length-append, length-drop}
 use lib.Seq.{take-append-le, drop-append-le}
-use Rattle.standard.specs.Journal.{Record, payload, gapNotice, resetNotice, Step, whole, more, unknown, payloadStep, step, badMark, Journal, ended, entered, rest, journalFrom, journal}
+use Rattle.standard.specs.Journal.{Record, payload, Step, whole, more, unknown, payloadStep, step, badMark, Journal, ended, entered, rest, journalFrom, journal}
 use Rattle.standard.specs.JournalParts.{Reader, waiting, stopped, Taken, takeFrom, arrive, endOf, readOn, journalOfParts}
-use Rattle.standard.proofs.JournalTurns.{step-sized, turns-suffice}
+use Rattle.standard.proofs.JournalTurns.{by-mark, step-sized, turns-suffice}
 
 -- A step that asks for no more bytes stays as it is when more arrive
 
@@ -70,13 +70,7 @@ step-within : (s : List ℕ) → Within (length s) (step s)
 unfolding step
 step-within [] = tt
 step-within (a ∷ []) = tt
-step-within (a ∷ b ∷ s) = go (eqb a 0x50 && eqb b 0x4c) (eqb a 0x47 && eqb b 0x50) (eqb a 0x52 && eqb b 0x53)
-  where
-    go : (p g r : Bool) → Within (suc (suc (length s))) (cond p (payloadStep s) (cond g (whole gapNotice 2) (cond r (whole resetNotice 2) unknown)))
-    go true g r = payload-within s
-    go false true r = omega arith
-    go false false true = omega arith
-    go false false false = tt
+step-within (a ∷ b ∷ s) = by-mark (Within (suc (suc (length s)))) a b s (payload-within s) (λ r. omega arith) tt
 
 module _ (s : List ℕ) {r : Record} {k : ℕ} (e : step s ≡ whole r k) where
   pub whole-within : k ≤ length s

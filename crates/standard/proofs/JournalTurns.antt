@@ -6,7 +6,7 @@ use mathlib.Core.List.{List, [], _∷_}
 use native.Mathlib.Omega.{arith}
 use lib.Dec.{leb, eqb}
 use lib.ListN.{length, take, drop, length-drop}
-use Rattle.standard.specs.Journal.{payload, gapNotice, resetNotice, Step, whole, more, unknown, payloadStep, step, entered, journalFrom}
+use Rattle.standard.specs.Journal.{Record, payload, gapNotice, resetNotice, startNotice, Step, whole, more, unknown, payloadStep, step, entered, journalFrom}
 
 -- a whole record has 2 bytes at least
 abbrev pub Sized : Step → Type 0
@@ -24,17 +24,24 @@ payload-sized (high ∷ low ∷ s) = go (leb (high * 256 + low) (length s))
     go true = omega arith
     go false = tt
 
+-- behind two bytes: a payload, a record that is its mark alone, or no record
+pub by-mark : (P : Step → Type 0) (a b : ℕ) (s : List ℕ) → P (payloadStep s) → ((r : Record) → P (whole r 2)) → P unknown → P (step (a ∷ b ∷ s))
+unfolding step
+by-mark P a b s p bare u = go (eqb a 0x50 && eqb b 0x4c) (eqb a 0x47 && eqb b 0x50) (eqb a 0x52 && eqb b 0x53) (eqb a 0x50 && eqb b 0x53)
+  where
+    go : (isPayload isGap isReset isStart : Bool)
+        → P (cond isPayload (payloadStep s) (cond isGap (whole gapNotice 2) (cond isReset (whole resetNotice 2) (cond isStart (whole startNotice 2) unknown))))
+    go true isGap isReset isStart = p
+    go false true isReset isStart = bare gapNotice
+    go false false true isStart = bare resetNotice
+    go false false false true = bare startNotice
+    go false false false false = u
+
 pub step-sized : (s : List ℕ) → Sized (step s)
 unfolding step
 step-sized [] = tt
 step-sized (a ∷ []) = tt
-step-sized (a ∷ b ∷ s) = go (eqb a 0x50 && eqb b 0x4c) (eqb a 0x47 && eqb b 0x50) (eqb a 0x52 && eqb b 0x53)
-  where
-    go : (isPayload isGap isReset : Bool) → Sized (cond isPayload (payloadStep s) (cond isGap (whole gapNotice 2) (cond isReset (whole resetNotice 2) unknown)))
-    go true isGap isReset = payload-sized s
-    go false true isReset = omega arith
-    go false false true = omega arith
-    go false false false = tt
+step-sized (a ∷ b ∷ s) = by-mark Sized a b s (payload-sized s) (λ r. omega arith) tt
 
 enough : (m n at : ℕ) (s : List ℕ) → length s ≤ m → length s ≤ n → journalFrom m at s ≡ journalFrom n at s
 unfolding journalFrom step

@@ -1,6 +1,6 @@
 -- No call changes the length of a table, whatever is lent.
 use Prim.Native.Nat.{ℕ, _*_, _≤_}
-use mathlib.Core.Path.{_≡_, refl}
+use mathlib.Core.Path.{_≡_, refl, _∙_}
 use mathlib.Core.Bool.{Bool, true, false, cond, _&&_}
 use mathlib.Core.List.{List}
 use native.Mathlib.Nat.{mul-le-mul-left}
@@ -9,14 +9,14 @@ use borrow.Author.Tests.{leb-true}
 use lib.Dec.{leb}
 use lib.IntN.{ℤ, pos}
 use lib.ListN.{length, replicate, set, length-replicate, length-set}
-use Rattle.standard.specs.Numbers.{rowWidth, objectLimit, blockLimit, retainedLength, startLength, blocksLength, timingsLength}
+use Rattle.standard.specs.Numbers.{doubtAt, rowWidth, objectLimit, blockLimit, retainedLength, startLength, blocksLength, timingsLength}
 use Rattle.standard.specs.Numbers as number
 use Rattle.standard.specs.Tree.{Tree, kindsOf}
 use Rattle.standard.specs.Rows.{State}
 use Rattle.standard.specs.Meaning.{startRows, retain}
 use Rattle.standard.specs.Tables.{rowsNumbers, timingNumbers, stateOf, stateNumbers, inForm}
-use Rattle.standard.specs.Calls.{Lent, over, hasRoom, accept, decline, decode, Kept, reset, gap}
-use Rattle.standard.specs.Journal.{Record, payload, gapNotice, resetNotice, replyTo}
+use Rattle.standard.specs.Calls.{Lent, over, hasRoom, accept, decline, decode, Kept, zeros, renewed, programmeStart, reset, gap}
+use Rattle.standard.specs.Journal.{Record, payload, gapNotice, resetNotice, startNotice, replyTo}
 use Rattle.standard.specs.Events.{after}
 use Rattle.standard.proofs.Small.{and-left, and-right}
 use Rattle.standard.proofs.RowsOfFrame.{last-rows-length}
@@ -117,16 +117,24 @@ decode-lengths s l =
       timings = over-within (timingNumbers (t .timings)) (l .timings) timingsLength (timings-fit t (f .sized)) (z .timings);
     })
 
--- Reset and gap
+-- Programme start, reset and gap
+
+renewed-length : (new l : List ℤ) → length new ≡ retainedLength → length (renewed new l .retained) ≡ length l
+unfolding renewed
+renewed-length new l e = go (leb retainedLength (length l)) refl
+  where
+    go : (b : Bool) → leb retainedLength (length l) ≡ b
+        → length (cond {A = Kept} b (record { number = number.accepted; retained = over new l }) (record { number = number.room; retained = l }) .retained) ≡ length l
+    go true h = let k = leb-true retainedLength (length l) h in over-length new l (omega arith)
+    go false h = refl
+
+start-length : (l : List ℤ) → length (programmeStart l .retained) ≡ length l
+unfolding programmeStart
+start-length l = renewed-length zeros l (length-replicate retainedLength (pos 0))
 
 reset-length : (l : List ℤ) → length (reset l .retained) ≡ length l
 unfolding reset
-reset-length l = go (leb retainedLength (length l)) refl
-  where
-    go : (b : Bool) → leb retainedLength (length l) ≡ b
-        → length (cond {A = Kept} b (record { number = number.accepted; retained = over (replicate retainedLength (pos 0)) l }) (record { number = number.room; retained = l }) .retained) ≡ length l
-    go true h = over-all retainedLength (pos 0) l (leb-true _ _ h)
-    go false h = refl
+reset-length l = renewed-length (set zeros doubtAt (pos 1)) l (length-set zeros doubtAt (pos 1) ∙ length-replicate retainedLength (pos 0))
 
 gap-length : (l : List ℤ) → length (gap l .retained) ≡ length l
 unfolding gap
@@ -144,3 +152,4 @@ unfolding after replyTo
 lengths-stay l (payload s) = decode-lengths s l
 lengths-stay l gapNotice = record { retained = gap-length (l .retained); start = refl; blocks = refl; timings = refl }
 lengths-stay l resetNotice = record { retained = reset-length (l .retained); start = refl; blocks = refl; timings = refl }
+lengths-stay l startNotice = record { retained = start-length (l .retained); start = refl; blocks = refl; timings = refl }

@@ -24,6 +24,7 @@ pub mod OnCalls
 pub mod MarksOnCalls
 pub mod Threaded
 pub mod FromZeros
+pub mod InPlace
 pub mod Retention
 pub mod Refusals
 pub mod ShownRows

@@ -11,7 +11,7 @@ use Rattle.standard.specs.Rows.{Row, State, fresh, noRow, is}
 use Rattle.standard.specs.Marks.{settled, newMark, settlesAll, isSome, rowMark}
 use Rattle.standard.specs.Meaning.{defaultRow, heldRow, startRows, updated, objectRows, allRows, gainOf, frameRows, lastRows, retain, retainIf, taken, decoded, unsettledCount}
 use Rattle.standard.specs.Tables.{inBlock}
-use Rattle.standard.specs.Events.{Event, resets, heard, missed, second, run}
+use Rattle.standard.specs.Events.{Event, starts, heard, missed, warns, warnsBoth, run, second}
 use Rattle.standard.proofs.Small.{and-right, nought-differs, Pairs}
 use Rattle.standard.proofs.Starts.{start-each}
 use Rattle.standard.proofs.RowsOfFrame.{last-rows-have}
@@ -81,30 +81,35 @@ fresh-settled : Settled fresh
 unfolding fresh
 fresh-settled = record { calm = refl; rows = tt }
 
+-- no gap notice and no reset to the second
 abbrev pub noGap : List Event → Bool
 noGap [] = true
-noGap (resets ∷ es) = noGap es
+noGap (starts ∷ es) = noGap es
 noGap (heard s ∷ es) = noGap es
-noGap (missed s ∷ es) = false
+noGap (missed s ∷ es) = noGap es
+noGap (warns n ∷ es) = false
+noGap (warnsBoth n ∷ es) = false
 
 run-settled : (st : State) (es : List Event) → Settled st → noGap es ≡ true → Settled (run second st es)
 unfolding run second decoded
 run-settled st [] h e = h
-run-settled st (resets ∷ es) h e = run-settled fresh es fresh-settled e
+run-settled st (starts ∷ es) h e = run-settled fresh es fresh-settled e
 run-settled st (heard s ∷ es) h e = run-settled (retainIf st (taken s)) es (heard-settled st (taken s) (first-block s) h) e
-run-settled st (missed s ∷ es) h e = absurd (false≢true e)
+run-settled st (missed s ∷ es) h e = run-settled st es h e
+run-settled st (warns n ∷ es) h e = absurd (false≢true e)
+run-settled st (warnsBoth n ∷ es) h e = absurd (false≢true e)
 
 pub no-gap : (es : List Event) → noGap es ≡ true → Settled (run second fresh es)
 no-gap es e = run-settled fresh es fresh-settled e
 
-run-reset : (st : State) (es es′ : List Event) → run second st (es ++ resets ∷ es′) ≡ run second fresh es′
+run-start : (st : State) (es es′ : List Event) → run second st (es ++ starts ∷ es′) ≡ run second fresh es′
 unfolding run second
-run-reset st [] es′ = refl
-run-reset st (e ∷ es) es′ = run-reset (second st e) es es′
+run-start st [] es′ = refl
+run-start st (e ∷ es) es′ = run-start (second st e) es es′
 
--- Whatever came before the last reset.
-pub no-gap-since : (es es′ : List Event) → noGap es′ ≡ true → Settled (run second fresh (es ++ resets ∷ es′))
-no-gap-since es es′ e = rw (run-reset fresh es es′) (no-gap es′ e)
+-- Whatever came before the last programme start.
+pub no-gap-since : (es es′ : List Event) → noGap es′ ≡ true → Settled (run second fresh (es ++ starts ∷ es′))
+no-gap-since es es′ e = rw (run-start fresh es es′) (no-gap es′ e)
 
 -- A payload whose Dynamic objects are active in its first block
 

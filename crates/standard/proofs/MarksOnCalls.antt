@@ -3,20 +3,23 @@ use Prim.Native.Nat.{ℕ, _*_}
 use mathlib.Core.Path.{_≡_, refl}
 use mathlib.Core.Bool.{true}
 use mathlib.Core.List.{List, [], _∷_, _++_}
+use lib.Dec.{leb}
 use lib.IntN.{ℤ}
+use lib.ListN.{length}
 use Rattle.bits.specs.Parsed.{Refusal}
 use Rattle.bits.proofs.Always.{All}
+use Rattle.standard.specs.Numbers.{retainedLength}
 use Rattle.standard.specs.Tree.{Kind, Tree, kindsOf}
 use Rattle.standard.specs.Rows.{Row, State, fresh}
 use Rattle.standard.specs.Meaning.{startRows, frameRows}
 use Rattle.standard.specs.Tables.{rowsOf, stateOf}
-use Rattle.standard.specs.Calls.{Lent, Done, accept, decline, decode}
-use Rattle.standard.specs.Events.{Event, resets, second, run, Beside, lend, Turn, events, secondTurn}
+use Rattle.standard.specs.Calls.{Lent, Done, accept, decline, decode, programmeStart}
+use Rattle.standard.specs.Events.{Event, starts, run, second, Beside, lend, Turn, events, secondTurn}
 use Rattle.standard.proofs.Small.{Pairs}
 use Rattle.standard.proofs.ReadBack.{starts-written, blocks-written, first-written, block-rows-have}
 use Rattle.standard.proofs.Marks.{Marked, Settled, starts-marked, blocks-marked, count-settled, noGap, no-gap, no-gap-since, ActiveRow, active-rows-settle}
 use Rattle.standard.proofs.Endings.{Fit, ends}
-use Rattle.standard.proofs.Tabled.{Holds, SecondRoomy, second-run}
+use Rattle.standard.proofs.Tabled.{SecondRoomy, start-holds, second-run}
 
 -- no block row that a call wrote is unsettled, and none is counted
 pub record BlocksSettled (d : Done) : Type 0 where
@@ -61,17 +64,18 @@ settled-call s l h =
       blocks = accept-settled l (stateOf (l .retained)) t f (blocks-marked (stateOf (l .retained)) t h);
     })
 
--- whatever frame tables are lent at each event, and at last
-module _ (b : Beside) (l : List ℤ) (ts : List Turn) (s : List ℕ) (roomy : All SecondRoomy ts) (holds : Holds l fresh) where
-  settled-turns : Settled (run second fresh (events ts)) → FrameSettled (decode s (lend b (run secondTurn l ts)))
-  settled-turns h = settled-call s (lend b (run secondTurn l ts)) (rw (second-run l ts roomy holds .state) h)
+-- whatever was retained before the programme start, and whatever frame tables are lent at each event and at last
+module _ (b : Beside) (l : List ℤ) (ts : List Turn) (s : List ℕ) (roomy : All SecondRoomy ts) (long : leb retainedLength (length l) ≡ true) where
+  settled-turns : Settled (run second fresh (events ts)) → FrameSettled (decode s (lend b (run secondTurn (programmeStart l .retained) ts)))
+  settled-turns h = settled-call s (lend b (run secondTurn (programmeStart l .retained) ts)) (rw (second-run (programmeStart l .retained) ts roomy (start-holds l long) .state) h)
 
-  -- None is unsettled without a gap since the start,
-  pub no-gap-call : noGap (events ts) ≡ true → FrameSettled (decode s (lend b (run secondTurn l ts)))
+  -- None is unsettled without a gap or a reset since the programme start,
+  pub no-gap-call : noGap (events ts) ≡ true → FrameSettled (decode s (lend b (run secondTurn (programmeStart l .retained) ts)))
   no-gap-call e = settled-turns (no-gap (events ts) e)
 
-  -- or since the last reset.
-  pub no-gap-since-call : (es es′ : List Event) → events ts ≡ es ++ resets ∷ es′ → noGap es′ ≡ true → FrameSettled (decode s (lend b (run secondTurn l ts)))
+  -- or since the last one.
+  pub no-gap-since-call : (es es′ : List Event) → events ts ≡ es ++ starts ∷ es′ → noGap es′ ≡ true
+      → FrameSettled (decode s (lend b (run secondTurn (programmeStart l .retained) ts)))
   no-gap-since-call es es′ d e = settled-turns (rw d (no-gap-since es es′ e))
 
 -- Active first blocks

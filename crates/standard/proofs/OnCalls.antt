@@ -1,23 +1,26 @@
 -- Demand 3 of the calls and the tables that they leave.
 use Prim.Native.Nat.{ℕ, _*_}
 use mathlib.Core.Path.{_≡_, refl, sym, _∙_}
+use mathlib.Core.Bool.{true, false}
 use mathlib.Core.List.{List}
+use lib.Dec.{leb}
 use lib.IntN.{ℤ}
 use lib.ListN.{length}
 use Rattle.bits.specs.Parsed.{Refusal}
 use Rattle.bits.proofs.Always.{All}
+use Rattle.standard.specs.Numbers.{retainedLength}
 use Rattle.standard.specs.Tree.{Tree}
-use Rattle.standard.specs.Rows.{State, fresh}
+use Rattle.standard.specs.Rows.{State}
 use Rattle.standard.specs.Meaning.{frameRows}
 use Rattle.standard.specs.Tables.{rowsOf, timingsOf, stateOf}
-use Rattle.standard.specs.Calls.{Lent, Done, accept, decline, decode}
-use Rattle.standard.specs.Events.{run, Beside, lend, Turn, events, firstTurn, secondTurn}
+use Rattle.standard.specs.Calls.{Lent, Done, accept, decline, decode, programmeStart}
+use Rattle.standard.specs.Events.{run, goneAstray, Beside, lend, Turn, events, firstTurn, secondTurn}
 use Rattle.standard.proofs.Small.{Pairs}
 use Rattle.standard.proofs.Agreement.{RowAgree}
 use Rattle.standard.proofs.ByBlock.{blocks-pairs}
 use Rattle.standard.proofs.Demand3.{StartAgree, nothing-agrees, Agreement, demand3}
 use Rattle.standard.proofs.ReadBack.{starts-written, blocks-written, timings-written}
-use Rattle.standard.proofs.Tabled.{Enough, Holds, FirstRoomy, SecondRoomy, first-run, second-run, two-calls}
+use Rattle.standard.proofs.Tabled.{Enough, start-holds, FirstRoomy, SecondRoomy, first-run, second-run, two-calls}
 
 -- Demand 3
 
@@ -55,12 +58,15 @@ decline-agree : (x y : Lent) (r : Refusal) → CallsAgree (decline x r) (decline
 unfolding decline
 decline-agree x y r = record { verdict = refl; objects = refl; blocks = refl; frames = nothing-written _ _ }
 
--- Two decoders start fresh and get the same resets; the second gets a gap notice in place of some payloads. At each event each side lends
--- frame tables of its own. Then a payload comes that both hear.
+-- Two decoders begin with programme start, whatever was retained before, and follow one programme. At each event each side lends frame
+-- tables of its own. Then a payload comes that both hear, and the second has not gone astray.
 pub demand3-turns : (b c : Beside) (l m : List ℤ) (ts : List Turn) (s : List ℕ) → Enough b → Enough c → All FirstRoomy ts → All SecondRoomy ts
-    → Holds l fresh → Holds m fresh → CallsAgree (decode s (lend b (run firstTurn l ts))) (decode s (lend c (run secondTurn m ts)))
-demand3-turns b c l m ts s hb hc n k hl hm =
-    let x = first-run l ts n hl in
-    let y = second-run m ts k hm in
-    two-calls (Agreement (stateOf (run firstTurn l ts)) (stateOf (run secondTurn m ts))) s (rw (x .state, y .state) (demand3 (events ts) s)) CallsAgree b c (run firstTurn l ts) (run secondTurn m ts) hb hc (x .good) (y .good)
-    (λ t h. accept-agree _ _ _ _ t h) (λ r. decline-agree _ _ r) (record { verdict = refl; objects = refl; blocks = refl; frames = nothing-written _ _ })
+    → leb retainedLength (length l) ≡ true → leb retainedLength (length m) ≡ true → goneAstray (events ts) ≡ false
+    → CallsAgree (decode s (lend b (run firstTurn (programmeStart l .retained) ts))) (decode s (lend c (run secondTurn (programmeStart m .retained) ts)))
+demand3-turns b c l m ts s hb hc n k hl hm a =
+    let x = first-run (programmeStart l .retained) ts n (start-holds l hl) in
+    let y = second-run (programmeStart m .retained) ts k (start-holds m hm) in
+    two-calls (Agreement (stateOf (run firstTurn (programmeStart l .retained) ts)) (stateOf (run secondTurn (programmeStart m .retained) ts))) s
+    (rw (x .state, y .state) (demand3 (events ts) s a)) CallsAgree b c (run firstTurn (programmeStart l .retained) ts) (run secondTurn (programmeStart m .retained) ts)
+    hb hc (x .good) (y .good) (λ t h. accept-agree _ _ _ _ t h) (λ r. decline-agree _ _ r)
+    (record { verdict = refl; objects = refl; blocks = refl; frames = nothing-written _ _ })

@@ -10,15 +10,15 @@ use lib.ListN.{length, getD, replicate, set, length-replicate}
 use borrow.Author.Tests.{le-leb, leb-true}
 use Rattle.bits.specs.Parsed.{Refusal, Parsed, got, refused}
 use Rattle.bits.proofs.Always.{Ok, All}
-use Rattle.standard.specs.Numbers.{objectLimit, retainedLength, startLength, blocksLength, timingsLength, payloadLimit, size, alone}
+use Rattle.standard.specs.Numbers.{objectLimit, doubtAt, retainedLength, startLength, blocksLength, timingsLength, payloadLimit, size, alone}
 use Rattle.standard.specs.Tree.{Tree}
 use Rattle.standard.specs.Syntax.{syntax}
 use Rattle.standard.specs.Rows.{State, fresh}
 use Rattle.standard.specs.Meaning.{retain, retainIf, taken, decoded, gapped}
 use Rattle.standard.specs.Tables.{between, isFlag, rowsNumbers, countOf, stateOf, stateNumbers, allForm, inForm}
-use Rattle.standard.specs.Calls.{Done, over, unchanged, hasRoom, accept, decline, settle, decode, reset, gap}
-use Rattle.standard.specs.Journal.{payload, gapNotice, resetNotice, replyTo}
-use Rattle.standard.specs.Events.{Event, resets, heard, missed, first, second, run, after, firstGets, secondGets, firstCall, secondCall, Beside, lend, Turn, events, firstTurn, secondTurn}
+use Rattle.standard.specs.Calls.{Done, over, unchanged, hasRoom, accept, decline, settle, decode, zeros, renewed, programmeStart, reset, gap}
+use Rattle.standard.specs.Journal.{payload, gapNotice, resetNotice, startNotice, replyTo}
+use Rattle.standard.specs.Events.{Notice, ofGap, ofReset, Event, starts, heard, missed, warns, warnsBoth, run, noticed, first, second, after, noticeOf, firstGets, secondGets, firstCall, secondCall, Beside, lend, Turn, events, firstTurn, secondTurn}
 use Rattle.standard.proofs.Small.{and-left, and-right, both}
 use Rattle.standard.proofs.RowsOfFrame.{last-rows-length}
 use Rattle.standard.proofs.Forms.{RowOk}
@@ -115,27 +115,33 @@ module _ (Q : Tree → Type 0) (s : List ℕ) (holds : Ok Q (taken s)) where
       go true q = settled (syntax s) q
       go false q = u
 
--- Reset and gap
+-- Programme start, reset and gap
 
--- zeros are the numbers of the fresh state
-zeros-fresh : replicate retainedLength (pos 0) ≡ stateNumbers fresh
-unfolding retainedLength stateNumbers rowsNumbers fresh
-zeros-fresh = refl
+-- a decoder that keeps no rows
+abbrev bare : ℤ → State
+bare d = record { doubt = d; rows = [] }
 
-fresh-holds : (l : List ℤ) → leb retainedLength (length l) ≡ true → Holds (over (stateNumbers fresh) l) fresh
-unfolding fresh objectLimit
-fresh-holds l e = written-holds fresh l e refl tt (omega arith)
+renewed-holds : (d : ℤ) (new l : List ℤ) → new ≡ stateNumbers (bare d) → isFlag d ≡ true → leb retainedLength (length l) ≡ true → Holds (renewed new l .retained) (bare d)
+unfolding renewed objectLimit
+renewed-holds d new l n f e = rw (e, n) (written-holds (bare d) l e f tt (omega arith))
 
--- All zeros is a fresh decoder, in a table of any sufficient length.
+pub start-holds : (l : List ℤ) → leb retainedLength (length l) ≡ true → Holds (programmeStart l .retained) fresh
+unfolding programmeStart fresh retainedLength stateNumbers rowsNumbers
+start-holds l e = renewed-holds (pos 0) zeros l refl refl e
+
+reset-holds : (l : List ℤ) → leb retainedLength (length l) ≡ true → Holds (reset l .retained) (gapped fresh)
+unfolding reset gapped fresh retainedLength stateNumbers rowsNumbers
+reset-holds l e = renewed-holds (pos 1) (set zeros doubtAt (pos 1)) l refl refl e
+
+-- Zeros are what a programme start writes, in a table of any sufficient length,
+pub start-of-zeros : (n : ℕ) → retainedLength ≤ n → programmeStart (replicate n (pos 0)) .retained ≡ replicate n (pos 0)
+unfolding programmeStart renewed
+start-of-zeros n h = rw (length-replicate n (pos 0), le-leb retainedLength n h) (over-same retainedLength n (pos 0) h)
+
+-- so they are a fresh decoder.
 pub zeros-hold : (n : ℕ) → retainedLength ≤ n → Holds (replicate n (pos 0)) fresh
 zeros-hold n h =
-    let zeros : List ℤ = replicate n (pos 0) in
-    let same : over (stateNumbers fresh) zeros ≡ zeros = ap (λ z. over z zeros) (sym zeros-fresh) ∙ over-same retainedLength n (pos 0) h in
-    subst (λ l. Holds l fresh) same (fresh-holds zeros (ap (leb retainedLength) (length-replicate n (pos 0)) ∙ le-leb retainedLength n h))
-
-reset-holds : (l : List ℤ) → leb retainedLength (length l) ≡ true → Holds (reset l .retained) fresh
-unfolding reset
-reset-holds l e = rw e (rw zeros-fresh (fresh-holds l e))
+    subst (λ l. Holds l fresh) (start-of-zeros n h) (start-holds (replicate n (pos 0)) (ap (leb retainedLength) (length-replicate n (pos 0)) ∙ le-leb retainedLength n h))
 
 -- doubt is the second number, and the rows lie behind it
 noted : (l : List ℤ) → leb retainedLength (length l) ≡ true → inForm l ≡ true → Holds (set l 1 (pos 1)) (gapped (stateOf l))
@@ -161,25 +167,30 @@ payload-holds : (b : Beside) (l : List ℤ) (st : State) (s : List ℕ) → Enou
 unfolding after replyTo
 payload-holds b l st s n h = rw (← h .state) (decode-holds b l s n (h .good))
 
-reset-record : (b : Beside) (l : List ℤ) (st : State) → Holds l st → Holds (after (lend b l) resetNotice .retained) fresh
+start-record : (b : Beside) (l : List ℤ) (st : State) → Holds l st → Holds (after (lend b l) startNotice .retained) fresh
 unfolding after replyTo
-reset-record b l st h = reset-holds l (h .good .long)
+start-record b l st h = start-holds l (h .good .long)
 
-gap-record : (b : Beside) (l : List ℤ) (st : State) → Holds l st → Holds (after (lend b l) gapNotice .retained) (gapped st)
-unfolding after replyTo
-gap-record b l st h = rw (← h .state) (gap-holds l (h .good))
+notice-record : (b : Beside) (l : List ℤ) (st : State) (n : Notice) → Holds l st → Holds (after (lend b l) (noticeOf n) .retained) (noticed n st)
+unfolding after replyTo noticeOf noticed
+notice-record b l st ofGap h = rw (← h .state) (gap-holds l (h .good))
+notice-record b l st ofReset h = reset-holds l (h .good .long)
 
 first-holds : (b : Beside) (l : List ℤ) (st : State) (e : Event) → Enough b → Holds l st → Holds (firstCall (lend b l) e .retained) (first st e)
-unfolding firstCall firstGets first
-first-holds b l st resets n h = reset-record b l st h
+unfolding firstCall firstGets first run
+first-holds b l st starts n h = start-record b l st h
 first-holds b l st (heard s) n h = payload-holds b l st s n h
 first-holds b l st (missed s) n h = payload-holds b l st s n h
+first-holds b l st (warns x) n h = h
+first-holds b l st (warnsBoth x) n h = notice-record b l st x h
 
 second-holds : (b : Beside) (l : List ℤ) (st : State) (e : Event) → Enough b → Holds l st → Holds (secondCall (lend b l) e .retained) (second st e)
-unfolding secondCall secondGets second
-second-holds b l st resets n h = reset-record b l st h
+unfolding secondCall secondGets second run
+second-holds b l st starts n h = start-record b l st h
 second-holds b l st (heard s) n h = payload-holds b l st s n h
-second-holds b l st (missed s) n h = gap-record b l st h
+second-holds b l st (missed s) n h = h
+second-holds b l st (warns x) n h = notice-record b l st x h
+second-holds b l st (warnsBoth x) n h = notice-record b l st x h
 
 -- a step keeps a table and its state together wherever the turn has room
 turns-hold : (Roomy : Turn → Type 0) (f : List ℤ → Turn → List ℤ) (g : State → Event → State)

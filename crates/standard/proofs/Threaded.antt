@@ -1,17 +1,18 @@
 -- Demand 3 where each call is lent what the last one left, as in the journal and in every rack: from turns, of which this is one way.
 use Prim.Native.Nat.{ℕ}
 use mathlib.Core.Path.{_≡_, refl, _∙_, ap}
-use mathlib.Core.Bool.{true}
+use mathlib.Core.Bool.{true, false}
 use mathlib.Core.List.{List, [], _∷_, _++_}
 use lib.Dec.{leb}
+use lib.ListN.{length}
 use Rattle.bits.proofs.Always.{All}
-use Rattle.standard.specs.Numbers.{startLength, blocksLength, timingsLength}
+use Rattle.standard.specs.Numbers.{retainedLength, startLength, blocksLength, timingsLength}
 use Rattle.standard.specs.Rows.{fresh}
 use Rattle.standard.specs.Calls.{Lent, decode}
-use Rattle.standard.specs.Journal.{Record}
-use Rattle.standard.specs.Events.{Event, resets, first, second, run, after, firstGets, secondGets, firstCall, secondCall, beside, Turn, events, firstTurn, secondTurn}
+use Rattle.standard.specs.Journal.{Record, startNotice, replyTo}
+use Rattle.standard.specs.Events.{Event, starts, run, goneAstray, first, second, after, firstGets, secondGets, firstCall, secondCall, beside, Turn, events, firstTurn, secondTurn}
 use Rattle.standard.proofs.Marks.{noGap, no-gap, no-gap-since}
-use Rattle.standard.proofs.Tabled.{Enough, Holds, FirstRoomy, SecondRoomy, first-run, second-run}
+use Rattle.standard.proofs.Tabled.{Enough, Holds, start-holds, FirstRoomy, SecondRoomy, first-run, second-run}
 use Rattle.standard.proofs.Lengths.{lengths-stay}
 use Rattle.standard.proofs.OnCalls.{CallsAgree, demand3-turns}
 use Rattle.standard.proofs.MarksOnCalls.{FrameSettled, settled-call}
@@ -48,46 +49,73 @@ enough-after l r n =
       timings = ap (leb timingsLength) (e .timings) ∙ n .timings;
     }
 
+records-enough : (l : Lent) (rs : List Record) → Enough (beside l) → Enough (beside (run after l rs))
+unfolding run
+records-enough l [] n = n
+records-enough l (r ∷ rs) n = records-enough (after l r) rs (enough-after l r n)
+
 first-roomy : (l m : Lent) (es : List Event) → Enough (beside l) → All FirstRoomy (turnsOf l m es)
 unfolding turnsOf firstCall
 first-roomy l m [] n = tt
-first-roomy l m (e ∷ es) n = (n, first-roomy (firstCall l e) (secondCall m e) es (enough-after l (firstGets e) n))
+first-roomy l m (e ∷ es) n = (n, first-roomy (firstCall l e) (secondCall m e) es (records-enough l (firstGets e) n))
 
 second-roomy : (l m : Lent) (es : List Event) → Enough (beside m) → All SecondRoomy (turnsOf l m es)
 unfolding turnsOf secondCall
 second-roomy l m [] n = tt
-second-roomy l m (e ∷ es) n = (n, second-roomy (firstCall l e) (secondCall m e) es (enough-after m (secondGets e) n))
+second-roomy l m (e ∷ es) n = (n, second-roomy (firstCall l e) (secondCall m e) es (records-enough m (secondGets e) n))
 
-run-enough : (f : Event → Record) (l : Lent) (es : List Event) → Enough (beside l) → Enough (beside (run (λ l e. after l (f e)) l es))
+run-enough : (f : Event → List Record) (l : Lent) (es : List Event) → Enough (beside l) → Enough (beside (run (λ l e. run after l (f e)) l es))
 unfolding run
 run-enough f l [] n = n
-run-enough f l (e ∷ es) n = run-enough f (after l (f e)) es (enough-after l (f e) n)
+run-enough f l (e ∷ es) n = run-enough f (run after l (f e)) es (records-enough l (f e) n)
 
--- a fresh decoder, with room in its frame tables
-pub record Begins (l : Lent) : Type 0 where
+-- tables with room, whatever they hold
+pub record Roomy (l : Lent) : Type 0 where
+  pub retained : leb retainedLength (length (l .retained)) ≡ true
   pub enough : Enough (beside l)
-  pub holds : Holds (l .retained) fresh
 
--- A retained table that starts fresh stays in form.
+-- A decoder that begins with programme start
 
-pub first-threaded : (l : Lent) (es : List Event) → Begins l → Holds (run firstCall l es .retained) (run first fresh es)
-first-threaded l es b = rw (first-turns l l es, turns-events l l es) at (first-run (l .retained) (turnsOf l l es) (first-roomy l l es (b .enough)) (b .holds))
+abbrev pub begun : Lent → Lent
+begun l = after l startNotice
 
-pub second-threaded : (l : Lent) (es : List Event) → Begins l → Holds (run secondCall l es .retained) (run second fresh es)
-second-threaded l es b = rw (second-turns l l es, turns-events l l es) at (second-run (l .retained) (turnsOf l l es) (second-roomy l l es (b .enough)) (b .holds))
+begun-holds : (l : Lent) → Roomy l → Holds (begun l .retained) fresh
+unfolding after replyTo
+begun-holds l b = start-holds (l .retained) (b .retained)
 
--- Two decoders start fresh and get the same resets; the second gets a gap notice in place of some payloads. Then a payload comes that both hear.
-pub demand3-threaded : (l m : Lent) (es : List Event) (s : List ℕ) → Begins l → Begins m → CallsAgree (decode s (run firstCall l es)) (decode s (run secondCall m es))
-unfolding firstCall secondCall
-demand3-threaded l m es s b c =
-    rw (first-turns l m es, second-turns l m es) at
-    (demand3-turns (beside (run firstCall l es)) (beside (run secondCall m es)) (l .retained) (m .retained) (turnsOf l m es) s
-    (run-enough firstGets l es (b .enough)) (run-enough secondGets m es (c .enough)) (first-roomy l m es (b .enough)) (second-roomy l m es (c .enough)) (b .holds) (c .holds))
+begun-enough : (l : Lent) → Roomy l → Enough (beside (begun l))
+begun-enough l b = enough-after l startNotice (b .enough)
 
--- None is unsettled without a gap since the start,
-pub no-gap-threaded : (l : Lent) (es : List Event) (s : List ℕ) → Begins l → noGap es ≡ true → FrameSettled (decode s (run secondCall l es))
-no-gap-threaded l es s b e = settled-call s (run secondCall l es) (rw (second-threaded l es b .state) (no-gap es e))
+-- Its retained table stays in form.
 
--- or since the last reset.
-pub no-gap-since-threaded : (l : Lent) (es es′ : List Event) (s : List ℕ) → Begins l → noGap es′ ≡ true → FrameSettled (decode s (run secondCall l (es ++ resets ∷ es′)))
-no-gap-since-threaded l es es′ s b e = settled-call s (run secondCall l (es ++ resets ∷ es′)) (rw (second-threaded l (es ++ resets ∷ es′) b .state) (no-gap-since es es′ e))
+pub first-threaded : (l : Lent) (es : List Event) → Roomy l → Holds (run firstCall (begun l) es .retained) (run first fresh es)
+first-threaded l es b =
+    let k = begun l in
+    rw (first-turns k k es, turns-events k k es) at (first-run (k .retained) (turnsOf k k es) (first-roomy k k es (begun-enough l b)) (begun-holds l b))
+
+pub second-threaded : (l : Lent) (es : List Event) → Roomy l → Holds (run secondCall (begun l) es .retained) (run second fresh es)
+second-threaded l es b =
+    let k = begun l in
+    rw (second-turns k k es, turns-events k k es) at (second-run (k .retained) (turnsOf k k es) (second-roomy k k es (begun-enough l b)) (begun-holds l b))
+
+-- Two decoders begin with programme start and follow one programme. Then a payload comes that both hear, and the second has not gone astray.
+pub demand3-threaded : (l m : Lent) (es : List Event) (s : List ℕ) → Roomy l → Roomy m → goneAstray es ≡ false
+    → CallsAgree (decode s (run firstCall (begun l) es)) (decode s (run secondCall (begun m) es))
+unfolding firstCall secondCall after replyTo
+demand3-threaded l m es s b c a =
+    let j = begun l in
+    let k = begun m in
+    rw (first-turns j k es, second-turns j k es) at
+    (demand3-turns (beside (run firstCall j es)) (beside (run secondCall k es)) (l .retained) (m .retained) (turnsOf j k es) s
+    (run-enough firstGets j es (begun-enough l b)) (run-enough secondGets k es (begun-enough m c)) (first-roomy j k es (begun-enough l b)) (second-roomy j k es (begun-enough m c))
+    (b .retained) (c .retained) (ap goneAstray (turns-events j k es) ∙ a))
+
+-- None is unsettled without a gap or a reset since the programme start,
+pub no-gap-threaded : (l : Lent) (es : List Event) (s : List ℕ) → Roomy l → noGap es ≡ true → FrameSettled (decode s (run secondCall (begun l) es))
+no-gap-threaded l es s b e = settled-call s (run secondCall (begun l) es) (rw (second-threaded l es b .state) (no-gap es e))
+
+-- or since the last one.
+pub no-gap-since-threaded : (l : Lent) (es es′ : List Event) (s : List ℕ) → Roomy l → noGap es′ ≡ true
+    → FrameSettled (decode s (run secondCall (begun l) (es ++ starts ∷ es′)))
+no-gap-since-threaded l es es′ s b e =
+    settled-call s (run secondCall (begun l) (es ++ starts ∷ es′)) (rw (second-threaded l (es ++ starts ∷ es′) b .state) (no-gap-since es es′ e))

@@ -1,6 +1,6 @@
 -- Demand 3's two decoders: what each gets of the same programme, as states and as calls on lent tables.
 use Prim.Native.Nat.{ℕ}
-use mathlib.Core.Bool.{Bool, true, false}
+use mathlib.Core.Bool.{Bool, true, false, _&&_}
 use mathlib.Core.List.{List, [], _∷_, map}
 use lib.IntN.{ℤ}
 use Rattle.standard.specs.Rows.{State, fresh}
@@ -51,6 +51,23 @@ isAstray astray = true
 -- after these events, which begin with both alike
 abbrev pub goneAstray : List Event → Bool
 goneAstray es = isAstray (run follow abreast es)
+
+-- a gap notice or a reset in place of each payload that the second misses, as demand 3 has it
+abbrev isInPlace : Event → Bool
+isInPlace starts = false
+isInPlace (heard s) = false
+isInPlace (missed s) = false
+isInPlace (warns n) = true
+isInPlace (warnsBoth n) = false
+
+unfoldable pub inPlace : List Event → Bool
+inPlace [] = true
+inPlace (missed s ∷ []) = false
+inPlace (missed s ∷ e ∷ es) = isInPlace e && inPlace es
+inPlace (starts ∷ es) = inPlace es
+inPlace (heard s ∷ es) = inPlace es
+inPlace (warns n ∷ es) = inPlace es
+inPlace (warnsBoth n ∷ es) = inPlace es
 
 -- As states
 
@@ -135,5 +152,5 @@ secondTurn l t = secondCall (lend (t .two) l) (t .event) .retained
 -- What computing opens
 
 unfoldable pub computed : Unit {0}
-unfolding run follow noticed first second after noticeOf firstGets secondGets firstCall secondCall firstTurn secondTurn
+unfolding run follow inPlace noticed first second after noticeOf firstGets secondGets firstCall secondCall firstTurn secondTurn
 computed = tt

@@ -1,10 +1,10 @@
--- Cases of the specification, section 9, "Marks and doubt", and of what stands between payloads: retained rows, changed kinds, reset.
+-- Cases of the specification, section 9, "Marks and doubt", and of what stands between payloads: retained rows, changed kinds, programme start, reset.
 use Prim.Native.Nat.{ℕ}
 use mathlib.Core.List.{List, [], _∷_, _++_}
 use lib.Dec.{T}
 use lib.IntN.{pos}
 use Rattle.standard.specs.Cases.{Case, allHold}
-use Rattle.standard.specs.Journal.{Record, payload, gapNotice, resetNotice}
+use Rattle.standard.specs.Journal.{Record, payload, gapNotice, resetNotice, startNotice}
 use Rattle.standard.proofs.cases.Writer.{Bits, _⊳_, said, saidWithLfe, blocks, off, on, kept, unity, level, place, to, moved, free, plain, groups, first, restOne, movedOne, neg, onRow, offRow, defaultOf, inactiveOf, shows, far, written}
 
 -- the object was at (10, 20, 5), and then payloads were missed
@@ -38,8 +38,8 @@ retainedCases =
     ∷ shows (payload movedOne ∷ []) restTwo 2 1 0 (defaultOf 3 1 ∷ defaultOf 3 1 ∷ []) (inactiveOf 3 1 ∷ inactiveOf 3 1 ∷ [])
     -- as many, of another kind
     ∷ shows (payload movedOne ∷ []) (saidWithLfe 1 (blocks 1 ++ off)) 1 1 0 (defaultOf 0 1 ∷ []) (inactiveOf 0 1 ∷ [])
-    -- after a reset the kinds are new
-    ∷ shows (payload movedOne ∷ resetNotice ∷ []) restOne 1 1 0 (defaultOf 3 1 ∷ []) (inactiveOf 3 1 ∷ [])
+    -- after a programme start the kinds are new
+    ∷ shows (payload movedOne ∷ startNotice ∷ []) restOne 1 1 0 (defaultOf 3 1 ∷ []) (inactiveOf 3 1 ∷ [])
     ∷ []
 
 -- Doubt
@@ -58,6 +58,9 @@ doubtCases =
     (defaultOf 3 0 ∷ defaultOf 3 0 ∷ []) (onRow (pos 0) 32 1 2 (pos 3) 1 ∷ inactiveOf 3 0 ∷ [])
     -- a gap before the first payload
     ∷ shows (gapNotice ∷ []) restOne 1 1 1 (defaultOf 3 0 ∷ []) (inactiveOf 3 0 ∷ [])
+    -- a reset forgets the row, and leaves doubt: before the first payload, and after one
+    ∷ shows (resetNotice ∷ []) restOne 1 1 1 (defaultOf 3 0 ∷ []) (inactiveOf 3 0 ∷ [])
+    ∷ shows (payload movedOne ∷ resetNotice ∷ []) restOne 1 1 1 (defaultOf 3 0 ∷ []) (inactiveOf 3 0 ∷ [])
     -- fixed kinds are settled in a block: changed kinds, and equal ones
     ∷ shows (gapNotice ∷ []) restWithLfe 2 1 1 (defaultOf 0 0 ∷ defaultOf 3 0 ∷ []) (inactiveOf 0 1 ∷ inactiveOf 3 0 ∷ [])
     ∷ shows (payload restWithLfe ∷ gapNotice ∷ []) restWithLfe 2 1 1 (inactiveOf 0 0 ∷ inactiveOf 3 0 ∷ []) (inactiveOf 0 1 ∷ inactiveOf 3 0 ∷ [])
@@ -75,8 +78,12 @@ clearingCases =
     ∷ shows (payload movedOne ∷ gapNotice ∷ payload restOne ∷ []) restOne 1 1 1 (offRow 10 20 (pos 5) 0 ∷ []) (offRow 10 20 (pos 5) 0 ∷ [])
     -- 1 after an active block 0
     ∷ shows (payload movedOne ∷ gapNotice ∷ payload movedOne ∷ []) restOne 1 1 0 (onRow (pos 0) 32 10 20 (pos 5) 1 ∷ []) (offRow 10 20 (pos 5) 1 ∷ [])
-    -- a reset ends it too
-    ∷ shows (payload movedOne ∷ gapNotice ∷ resetNotice ∷ []) restOne 1 1 0 (defaultOf 3 1 ∷ []) (inactiveOf 3 1 ∷ [])
+    -- a programme start ends it too, a reset's and a gap's; a reset does not
+    ∷ shows (payload movedOne ∷ gapNotice ∷ startNotice ∷ []) restOne 1 1 0 (defaultOf 3 1 ∷ []) (inactiveOf 3 1 ∷ [])
+    ∷ shows (payload movedOne ∷ resetNotice ∷ startNotice ∷ []) restOne 1 1 0 (defaultOf 3 1 ∷ []) (inactiveOf 3 1 ∷ [])
+    ∷ shows (payload movedOne ∷ gapNotice ∷ resetNotice ∷ []) restOne 1 1 1 (defaultOf 3 0 ∷ []) (inactiveOf 3 0 ∷ [])
+    -- after a reset, too, an accepted payload ends it
+    ∷ shows (resetNotice ∷ payload movedOne ∷ []) restOne 1 1 0 (onRow (pos 0) 32 10 20 (pos 5) 1 ∷ []) (offRow 10 20 (pos 5) 1 ∷ [])
     ∷ []
 
 -- What settles a picture

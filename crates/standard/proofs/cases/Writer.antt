@@ -10,7 +10,7 @@ use Rattle.standard.specs.Numbers.{rowWidth, silence}
 use Rattle.standard.specs.Tree.{dynamic, kindNumber}
 use Rattle.standard.specs.Rows.{Row}
 use Rattle.standard.specs.Computed.{computed}
-use Rattle.standard.specs.Journal.{Record, resetNotice}
+use Rattle.standard.specs.Journal.{Record, startNotice}
 use Rattle.standard.specs.Cases.{plainRow, inactiveRow, Case, refuses, accepts, headOfA}
 use Rattle.standard.specs.Cases as cases
 
@@ -200,11 +200,11 @@ defaultOf k m = plainRow (pos k) (pos 1) (pos 0) (pos 32) (pos 31) (pos 31) (pos
 abbrev pub inactiveOf : ℕ → ℕ → Row
 inactiveOf k m = plainRow (pos k) (pos 0) silence (pos 0) (pos 31) (pos 31) (pos 0) (pos m)
 
--- Cases. Each begins with a reset: its tables are those of a fresh decoder, and computed once for all cases
+-- Cases. Each begins with a programme start: its tables are those of a fresh decoder, and computed once for all cases
 
 -- after these records: a payload; objects, blocks, unsettled; start rows; block rows; timings
 unfoldable pub gives : List Record → List ℕ → ℕ → ℕ → ℕ → List Row → List Row → List ℕ → Case
-gives rs s n b u start rows timings = accepts (resetNotice ∷ rs) s n b u start rows timings
+gives rs s n b u start rows timings = accepts (startNotice ∷ rs) s n b u start rows timings
 
 -- all blocks at 0, no ramps
 unfoldable pub shows : List Record → List ℕ → ℕ → ℕ → ℕ → List Row → List Row → Case
@@ -212,7 +212,7 @@ shows rs s n b u start rows = gives rs s n b u start rows (replicate (2 * b) 0)
 
 -- a payload; number, context, place
 unfoldable pub fails : List ℕ → ℕ → ℕ → ℕ → Case
-fails s n c p = refuses (resetNotice ∷ []) s n c p
+fails s n c p = refuses (startNotice ∷ []) s n c p
 
 -- how far cases look into each list: beyond the rows that they write, of 8 and of 32 objects or blocks
 

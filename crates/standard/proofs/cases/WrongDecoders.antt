@@ -14,12 +14,13 @@ use Rattle.standard.specs.Contexts as context
 use Rattle.standard.specs.Rows.{Picture, Row, defaultPicture, eqℤ, is}
 use Rattle.standard.specs.Tables.{rowsNumbers, rowsOf, countOf}
 use Rattle.standard.specs.Calls.{Lent, Done, over, decline, decode, timingCall}
-use Rattle.standard.specs.Journal.{freshTables, withRetained}
+use Rattle.standard.specs.Journal.{withRetained, replyTo, freshTables}
+use Rattle.standard.specs.Events as events
 use Rattle.standard.specs.Events.{run}
 use Rattle.standard.proofs.MarkLaws.{none-differs}
 use Rattle.standard.proofs.MarksOnCalls.{FrameSettled}
 use Rattle.standard.proofs.Threaded.{no-gap-threaded}
-use Rattle.standard.proofs.FromZeros.{Lengths, zeros-begin}
+use Rattle.standard.proofs.FromZeros.{Lengths, zeroTables, zeros-roomy}
 use Rattle.standard.proofs.cases.Writer.{_⊳_, bytes, dynamicOnly, said, block, timed, blocks, off, unity, place, first, restOne, movedOne, written}
 
 abbrev pub Decoder : Type 0
@@ -140,8 +141,8 @@ KeepsMarks f = (s : List ℕ) → FrameSettled (f s freshTables)
 
 -- decode keeps it
 pub decode-keeps-marks : KeepsMarks decode
-unfolding freshTables run
-decode-keeps-marks s = no-gap-threaded freshTables [] s (zeros-begin exact (record { retained = omega arith; start = omega arith; blocks = omega arith; timings = omega arith })) refl
+unfolding freshTables run events.after replyTo
+decode-keeps-marks s = no-gap-threaded (zeroTables exact) [] s (zeros-roomy exact (record { retained = omega arith; start = omega arith; blocks = omega arith; timings = omega arith })) refl
   where
     exact : Lengths
     exact = record { retained = retainedLength; start = startLength; blocks = blocksLength; timings = timingsLength }

@@ -8,35 +8,81 @@ use borrow.Author.Tests.{le-leb, lt-leb, leb-true, ne-eqb}
 use lib.Dec.{leb}
 use lib.IntN.{ℤ, pos}
 use lib.ListN.{length, take, drop, replicate, set, length-take, length-drop}
-use Rattle.standard.specs.Numbers.{rowWidth, retainedLength, accepted, room, form, index}
+use Rattle.standard.specs.Numbers.{doubtAt, rowWidth, retainedLength, accepted, room, form, index}
 use Rattle.standard.specs.Tables.{rowOf, shownForm, inForm}
-use Rattle.standard.specs.Calls.{over, reset, gap, rowPart, rowNumber, partCall}
+use Rattle.standard.specs.Calls.{over, Kept, zeros, renewed, programmeStart, reset, gap, rowPart, rowNumber, partCall}
 use Rattle.rows.specs.Places.{rowAt}
 use Rattle.rows.specs.Promises.{Left, Handed}
 
--- Reset and gap: a short table, a table out of form, and the change
+-- Programme start, reset and gap: a short table, a table out of form, and the change
 
 module _ (l : List ℤ) (short : length l < retainedLength) where
-  pub reset-short : Left (reset l) room l
-  unfolding reset
-  reset-short = rw (lt-leb retainedLength (length l) short) (record { number = refl; retained = refl })
+  renewed-short : (new : List ℤ) → Left (renewed new l) room l
+  unfolding renewed
+  renewed-short new = rw (lt-leb retainedLength (length l) short) (record { number = refl; retained = refl })
+
+  pub start-short : Left (programmeStart l) room l
+  unfolding programmeStart
+  start-short = renewed-short zeros
 
   pub gap-short : Left (gap l) room l
   unfolding gap
   gap-short = rw (lt-leb retainedLength (length l) short) (record { number = refl; retained = refl })
 
 module _ (l : List ℤ) (long : retainedLength ≤ length l) where
-  pub reset-done : {l′ : List ℤ} → l′ ≡ over (replicate retainedLength (pos 0)) l → Left (reset l) accepted l′
-  unfolding reset
-  reset-done e = rw (le-leb retainedLength (length l) long) (record { number = refl; retained = e })
+  pub start-done : {l′ : List ℤ} → l′ ≡ over zeros l → Left (programmeStart l) accepted l′
+  unfolding programmeStart renewed
+  start-done e = rw (le-leb retainedLength (length l) long) (record { number = refl; retained = e })
 
   pub gap-formless : inForm l ≡ false → Left (gap l) form l
   unfolding gap
   gap-formless e = rw (le-leb retainedLength (length l) long, e) (record { number = refl; retained = refl })
 
-  pub gap-done : inForm l ≡ true → Left (gap l) accepted (set l 1 (pos 1))
+  pub gap-done : {l′ : List ℤ} → inForm l ≡ true → l′ ≡ set l doubtAt (pos 1) → Left (gap l) accepted l′
   unfolding gap
-  gap-done e = rw (le-leb retainedLength (length l) long, e) (record { number = refl; retained = refl })
+  gap-done e d = rw (le-leb retainedLength (length l) long, e) (record { number = refl; retained = d })
+
+-- A reset: what a programme start left, and doubt where it was accepted
+
+set-over : (l : List ℤ) (v : ℤ) → set (over zeros l) doubtAt v ≡ over (set zeros doubtAt v) l
+unfolding retainedLength
+set-over l v = refl
+
+module _ (l : List ℤ) {n : ℕ} {l′ : List ℤ} (p : Left (programmeStart l) n l′) where
+  started : Bool → Kept
+  started b = cond b (record { number = accepted; retained = over zeros l }) (record { number = room; retained = l })
+
+  had-room : n ≡ accepted → leb retainedLength (length l) ≡ true
+  unfolding programmeStart renewed started
+  had-room z = go (leb retainedLength (length l)) (sym (p .number) ∙ z)
+    where
+      go : (b : Bool) → started b .number ≡ accepted → b ≡ true
+      go true e = refl
+      go false e = absurd (omega arith)
+
+  no-room : (n ≡ accepted → ⊥) → leb retainedLength (length l) ≡ false
+  unfolding programmeStart renewed started
+  no-room z = go (leb retainedLength (length l)) (p .number)
+    where
+      go : (b : Bool) → n ≡ started b .number → b ≡ false
+      go true e = absurd (z e)
+      go false e = refl
+
+  pub reset-refused : (n ≡ accepted → ⊥) → Left (reset l) n l′
+  unfolding programmeStart reset renewed
+  reset-refused z = let e = no-room z in rw e (record { number = rw e at (p .number); retained = rw e at (p .retained) })
+
+  module _ (z : n ≡ accepted) where
+    -- the doubt has its place
+    pub doubt-there : doubtAt < length l′
+    unfolding programmeStart renewed retainedLength
+    doubt-there = let k = rw (had-room z) at (p .retained) in let e = ap length k in omega arith
+
+    pub reset-done : {l″ : List ℤ} → l″ ≡ set l′ doubtAt (pos 1) → Left (reset l) n l″
+    unfolding programmeStart reset renewed
+    reset-done e =
+        let k = rw (had-room z) at (p .retained) in
+        rw (had-room z) (record { number = z; retained = e ∙ ap (λ (t : List ℤ). set t doubtAt (pos 1)) k ∙ set-over l (pos 1) })
 
 -- A row: outside its table, out of form, and shown
 

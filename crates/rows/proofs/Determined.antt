@@ -6,6 +6,7 @@ use lib.IntN.{ℤ}
 use denote.Ref.{now}
 use Rattle.standard.specs.Calls.{Kept, PartAnswer}
 use Rattle.rows.specs.Promises.{Left, Handed}
+use Rattle.rows.proofs.calls.programme_start.Reads as programme-start
 use Rattle.rows.proofs.calls.reset.Reads as reset
 use Rattle.rows.proofs.calls.gap.Reads as gap
 use Rattle.rows.proofs.calls.row_part.Reads as row-part
@@ -26,6 +27,9 @@ kept-is p = λ i. kept (p .number i) (p .retained i)
 
 handed-is : {a : PartAnswer} {n : ℕ} {l : List ℤ} → Handed a n l → handed n l ≡ a
 handed-is p = λ i. handed (p .number i) (p .part i)
+
+pub programme-start-determined : Determines programme-start.Post (λ κs n s. kept n (now (s .0)))
+programme-start-determined κs a n n′ s s′ p q = kept-is p ∙ sym (kept-is q)
 
 pub reset-determined : Determines reset.Post (λ κs n s. kept n (now (s .0)))
 reset-determined κs a n n′ s s′ p q = kept-is p ∙ sym (kept-is q)

@@ -1,6 +1,10 @@
-// The public calls that need a table alone: reset, gap, and the row of an object. None asks anything of its caller.
+// The public calls that need a table alone: programme start, reset, gap, and the row of an object. None asks anything of its caller.
+ghost use Prim.Native.Nat.{_<_};
 ghost use mathlib.Core.Path.{_≡_};
-ghost use Rattle.standard.specs.Calls.{reset, gap, rowNumber, partCall};
+ghost use lib.IntN.{pos};
+ghost use lib.ListN.{length, set};
+ghost use Rattle.standard.specs.Numbers.{doubtAt};
+ghost use Rattle.standard.specs.Calls.{programmeStart, reset, gap, rowNumber, partCall};
 ghost use Rattle.rows.specs.Promises.{Left, Handed};
 use crate::form::in_form;
 use crate::form::shown_form;
@@ -14,14 +18,26 @@ use crate::numbers::ROW_WIDTH;
 use crate::table::clear;
 use crate::table::row_at;
 
-pub fn reset(retained: &mut [i16]) -> u32
-    ensures { λ r. ⌜ Left (reset (now (retained .entry))) r (now (retained .exit)) ⌝ }
+// A fresh decoder, at the head of a programme.
+pub fn programme_start(retained: &mut [i16]) -> u32
+    ensures { λ r. ⌜ Left (programmeStart (now (retained .entry))) r (now (retained .exit)) ⌝ }
 {
     if retained.len() < RETAINED_LENGTH {
         return ROOM;
     }
     clear(retained, RETAINED_LENGTH);
     ACCEPTED
+}
+
+// A programme may be under way: the same start, but in doubt.
+pub fn reset(retained: &mut [i16]) -> u32
+    ensures { λ r. ⌜ Left (reset (now (retained .entry))) r (now (retained .exit)) ⌝ }
+{
+    let number = programme_start(retained);
+    if number == ACCEPTED {
+        doubt(retained);
+    }
+    number
 }
 
 // Only the doubt changes.
@@ -34,8 +50,15 @@ pub fn gap(retained: &mut [i16]) -> u32
     if !in_form(retained) {
         return FORM;
     }
-    retained[DOUBT] = 1;
+    doubt(retained);
     ACCEPTED
+}
+
+fn doubt(retained: &mut [i16])
+    requires { ⌜ doubtAt < length (now retained) ⌝ }
+    ensures { λ r. ⌜ now (retained .exit) ≡ set (now (retained .entry)) doubtAt (pos 1) ⌝ }
+{
+    retained[DOUBT] = 1;
 }
 
 // Why the row at an index cannot be shown. The rows are counted first, since the index may be any number.

@@ -17,7 +17,9 @@ returns-2 c = gap-formless _ (c .before .before .before .if1 .left) (sym (c .bef
 
 returns-3 : tie.Need-returns-3
 unfolding retainedLength
-returns-3 c = gap-done _ (c .before .before .before .if1 .left) (sym (c .before .in-form .ensures) ∙ not-false _ (c .if2 .left))
+returns-3 c =
+    let f = c .before .before .before in
+    gap-done _ (f .before .before .before .if1 .left) (sym (f .before .in-form .ensures) ∙ not-false _ (f .if2 .left)) (c .before .doubt .ensures)
 
 pub gap-spec : {M : Type 1} → statement M
 unfolding retainedLength

@@ -5,10 +5,11 @@ use mathlib.Core.List.{List}
 use lib.Ieee.{Float}
 use denote.Ref.{now}
 use Rattle.standard.specs.Calls.{Lent, Done, Kept, RampAnswer, ShownAnswer}
-use Rattle.rows.proofs.Determined.{Determines, reset-determined, gap-determined}
+use Rattle.rows.proofs.Determined.{Determines, programme-start-determined, reset-determined, gap-determined}
 use Rattle.oamd.specs.Promises.{lent}
 use Rattle.rack.specs.Twins.{DecodeLeft, answerNumbers, RampLeft, choiceNumbers, ShownLeft, shownFloats, silence}
 use Rattle.rack.proofs.oamd_decode.Reads as decode
+use Rattle.rack.proofs.oamd_start.Reads as start
 use Rattle.rack.proofs.oamd_reset.Reads as reset
 use Rattle.rack.proofs.oamd_gap.Reads as gap
 use Rattle.rack.proofs.oamd_timing.Reads as timing
@@ -40,7 +41,10 @@ pub oamd-decode-determined : Determines {Seen = Decoding} decode.Post
     })
 oamd-decode-determined κs a n n′ s s′ p q = decoding-is _ p ∙ sym (decoding-is _ q)
 
--- Reset and gap: the number and the table, as of the calls themselves
+-- Programme start, reset and gap: the number and the table, as of the calls themselves
+
+pub oamd-start-determined : Determines {Seen = Kept} start.Post (λ κs n s. record { number = n; retained = now (s .0) })
+oamd-start-determined = programme-start-determined
 
 pub oamd-reset-determined : Determines {Seen = Kept} reset.Post (λ κs n s. record { number = n; retained = now (s .0) })
 oamd-reset-determined = reset-determined

@@ -37,7 +37,15 @@ pub extern "C" fn oamd_decode(
     }
 }
 
-// Writes zeros: a fresh decoder.
+// Writes zeros: a fresh decoder, at the head of a programme.
+#[no_mangle]
+pub extern "C" fn oamd_start(retained: &mut [i16]) -> u32
+    ensures { λ r. ⌜ rows.Left (calls.programmeStart (now (retained .entry))) r (now (retained .exit)) ⌝ }
+{
+    rows::calls::programme_start(retained)
+}
+
+// Writes zeros but for the doubt: a programme may be under way.
 #[no_mangle]
 pub extern "C" fn oamd_reset(retained: &mut [i16]) -> u32
     ensures { λ r. ⌜ rows.Left (calls.reset (now (retained .entry))) r (now (retained .exit)) ⌝ }

@@ -11,6 +11,7 @@ use lib.ListN.{length, take, drop, replicate, set, length-take, length-drop}
 use Rattle.standard.specs.Numbers.{doubtAt, rowWidth, retainedLength, accepted, room, form, index}
 use Rattle.standard.specs.Tables.{rowOf, shownForm, inForm}
 use Rattle.standard.specs.Calls.{over, Kept, zeros, renewed, programmeStart, reset, gap, rowPart, rowNumber, partCall}
+use Rattle.standard.proofs.Tabled.{set-over}
 use Rattle.rows.specs.Places.{rowAt}
 use Rattle.rows.specs.Promises.{Left, Handed}
 
@@ -43,10 +44,6 @@ module _ (l : List ℤ) (long : retainedLength ≤ length l) where
   gap-done e d = rw (le-leb retainedLength (length l) long, e) (record { number = refl; retained = d })
 
 -- A reset: what a programme start left, and doubt where it was accepted
-
-set-over : (l : List ℤ) (v : ℤ) → set (over zeros l) doubtAt v ≡ over (set zeros doubtAt v) l
-unfolding retainedLength
-set-over l v = refl
 
 module _ (l : List ℤ) {n : ℕ} {l′ : List ℤ} (p : Left (programmeStart l) n l′) where
   started : Bool → Kept
@@ -82,7 +79,7 @@ module _ (l : List ℤ) {n : ℕ} {l′ : List ℤ} (p : Left (programmeStart l)
     unfolding programmeStart reset renewed
     reset-done e =
         let k = rw (had-room z) at (p .retained) in
-        rw (had-room z) (record { number = z; retained = e ∙ ap (λ (t : List ℤ). set t doubtAt (pos 1)) k ∙ set-over l (pos 1) })
+        rw (had-room z) (record { number = z; retained = e ∙ ap (λ (t : List ℤ). set t doubtAt (pos 1)) k ∙ set-over l })
 
 -- A row: outside its table, out of form, and shown
 

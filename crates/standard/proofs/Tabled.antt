@@ -161,6 +161,20 @@ gap-holds : (l : List ℤ) → Good l → Holds (gap l .retained) (gapped (state
 unfolding gap
 gap-holds l g = rw (g .long, g .form) (noted l (g .long) (g .form))
 
+-- A reset is a programme start and then a gap notice, for every table.
+
+pub set-over : (l : List ℤ) → set (over zeros l) doubtAt (pos 1) ≡ over (set zeros doubtAt (pos 1)) l
+unfolding retainedLength
+set-over l = refl
+
+pub reset-is : (l : List ℤ) → reset l ≡ gap (programmeStart l .retained)
+unfolding programmeStart reset renewed gap
+reset-is l = go (leb retainedLength (length l)) refl
+  where
+    go : (b : Bool) → leb retainedLength (length l) ≡ b → reset l ≡ gap (programmeStart l .retained)
+    go true e = let g = rw e at (start-holds l e .good) in rw (e, g .long, g .form, set-over l)
+    go false e = rw (e, e)
+
 -- Programmes
 
 payload-holds : (b : Beside) (l : List ℤ) (st : State) (s : List ℕ) → Enough b → Holds l st → Holds (after (lend b l) (payload s) .retained) (decoded st s)

@@ -10,3 +10,4 @@ pub mod RampCases
 pub mod JournalCases
 pub mod ShownValues
 pub mod WrongDecoders
+pub mod Astray

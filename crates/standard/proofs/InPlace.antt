@@ -1,7 +1,7 @@
 -- Demand 3 in the words of the demand itself: the second gets a gap notice or a reset in place of each payload that it misses.
 use Prim.Native.Nat.{ℕ}
-use mathlib.Core.Path.{_≡_, refl, sym}
-use mathlib.Core.Bool.{true, false, _&&_, false≢true}
+use mathlib.Core.Path.{_≡_, refl}
+use mathlib.Core.Bool.{true, false, false≢true}
 use mathlib.Core.List.{List, [], _∷_}
 use Rattle.standard.specs.Calls.{Lent, decode}
 use Rattle.standard.specs.Events.{Event, starts, heard, missed, warns, warnsBoth, run, Following, abreast, warned, astray, follow, isAstray, goneAstray, inPlace, firstCall, secondCall}

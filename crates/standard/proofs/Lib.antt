@@ -25,6 +25,7 @@ pub mod MarksOnCalls
 pub mod Threaded
 pub mod FromZeros
 pub mod InPlace
+pub mod SwitchedOn
 pub mod Retention
 pub mod Refusals
 pub mod ShownRows

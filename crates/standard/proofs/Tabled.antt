@@ -1,6 +1,6 @@
 -- A retained table in form stands for a state, and the calls do to the table what the definitions do to the state.
 use Prim.Native.Nat.{ℕ, _≤_}
-use mathlib.Core.Path.{_≡_, refl, subst, sym, _∙_, ap}
+use mathlib.Core.Path.{_≡_, refl, subst, _∙_, ap}
 use mathlib.Core.Bool.{Bool, true, false, cond, _&&_, false≢true}
 use mathlib.Core.List.{List, [], _∷_}
 use native.Mathlib.Omega.{arith}
@@ -17,7 +17,7 @@ use Rattle.standard.specs.Rows.{State, fresh}
 use Rattle.standard.specs.Meaning.{retain, retainIf, taken, decoded, gapped}
 use Rattle.standard.specs.Tables.{between, isFlag, rowsNumbers, countOf, stateOf, stateNumbers, allForm, inForm}
 use Rattle.standard.specs.Calls.{Done, over, unchanged, hasRoom, accept, decline, settle, decode, zeros, renewed, programmeStart, reset, gap}
-use Rattle.standard.specs.Journal.{payload, gapNotice, resetNotice, startNotice, replyTo}
+use Rattle.standard.specs.Journal.{payload, startNotice, replyTo}
 use Rattle.standard.specs.Events.{Notice, ofGap, ofReset, Event, starts, heard, missed, warns, warnsBoth, run, noticed, first, second, after, noticeOf, firstGets, secondGets, firstCall, secondCall, Beside, lend, Turn, events, firstTurn, secondTurn}
 use Rattle.standard.proofs.Small.{and-left, and-right, both}
 use Rattle.standard.proofs.RowsOfFrame.{last-rows-length}
@@ -173,6 +173,19 @@ reset-is l = go (leb retainedLength (length l)) refl
   where
     go : (b : Bool) → leb retainedLength (length l) ≡ b → reset l ≡ gap (programmeStart l .retained)
     go true e = let g = rw e at (start-holds l e .good) in rw (e, g .long, g .form, set-over l)
+    go false e = rw (e, e)
+
+-- and makes nothing of what was retained
+over-again : (l : List ℤ) → over (set zeros doubtAt (pos 1)) (over zeros l) ≡ over (set zeros doubtAt (pos 1)) l
+unfolding retainedLength
+over-again l = refl
+
+pub reset-again : (l : List ℤ) → reset (programmeStart l .retained) .retained ≡ reset l .retained
+unfolding programmeStart reset renewed
+reset-again l = go (leb retainedLength (length l)) refl
+  where
+    go : (b : Bool) → leb retainedLength (length l) ≡ b → reset (programmeStart l .retained) .retained ≡ reset l .retained
+    go true e = let g = rw e at (start-holds l e .good .long) in rw (e, g, over-again l)
     go false e = rw (e, e)
 
 -- Programmes

@@ -8,6 +8,7 @@ pub mod Starts
 pub mod RowsOfFrame
 pub mod MarkLaws
 pub mod Agreement
+pub mod Related
 pub mod Demand3
 pub mod Marks
 pub mod Forms

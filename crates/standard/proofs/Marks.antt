@@ -11,7 +11,7 @@ use Rattle.standard.specs.Rows.{Row, State, fresh, noRow, is}
 use Rattle.standard.specs.Marks.{settled, newMark, settlesAll, isSome, rowMark}
 use Rattle.standard.specs.Meaning.{defaultRow, heldRow, startRows, updated, objectRows, allRows, gainOf, frameRows, lastRows, retain, retainIf, taken, decoded, unsettledCount}
 use Rattle.standard.specs.Tables.{inBlock}
-use Rattle.standard.specs.Events.{Event, starts, heard, missed, warns, warnsBoth, run, second}
+use Rattle.standard.specs.Events.{Event, starts, heard, missed, warns, warnsBoth, run, secondGets, stateAfter, second}
 use Rattle.standard.proofs.Small.{and-right, nought-differs, Pairs}
 use Rattle.standard.proofs.Starts.{start-each}
 use Rattle.standard.proofs.RowsOfFrame.{last-rows-have}
@@ -91,7 +91,7 @@ noGap (warns n ∷ es) = false
 noGap (warnsBoth n ∷ es) = false
 
 run-settled : (st : State) (es : List Event) → Settled st → noGap es ≡ true → Settled (run second st es)
-unfolding run second decoded
+unfolding run secondGets stateAfter second decoded
 run-settled st [] h e = h
 run-settled st (starts ∷ es) h e = run-settled fresh es fresh-settled e
 run-settled st (heard s ∷ es) h e = run-settled (retainIf st (taken s)) es (heard-settled st (taken s) (first-block s) h) e
@@ -103,7 +103,7 @@ pub no-gap : (es : List Event) → noGap es ≡ true → Settled (run second fre
 no-gap es e = run-settled fresh es fresh-settled e
 
 run-start : (st : State) (es es′ : List Event) → run second st (es ++ starts ∷ es′) ≡ run second fresh es′
-unfolding run second
+unfolding run secondGets stateAfter second
 run-start st [] es′ = refl
 run-start st (e ∷ es) es′ = run-start (second st e) es es′
 

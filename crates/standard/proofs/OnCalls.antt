@@ -18,7 +18,8 @@ use Rattle.standard.specs.Events.{run, goneAstray, Beside, lend, Turn, e
 use Rattle.standard.proofs.Small.{Pairs}
 use Rattle.standard.proofs.Agreement.{RowAgree}
 use Rattle.standard.proofs.ByBlock.{blocks-pairs}
-use Rattle.standard.proofs.Demand3.{StartAgree, nothing-agrees, Agreement, demand3}
+use Rattle.standard.proofs.Related.{StartAgree, nothing-agrees, Agreement}
+use Rattle.standard.proofs.Demand3.{demand3}
 use Rattle.standard.proofs.ReadBack.{starts-written, blocks-written, timings-written}
 use Rattle.standard.proofs.Tabled.{Enough, start-holds, FirstRoomy, SecondRoomy, first-run, second-run, two-calls}
 

@@ -16,15 +16,16 @@ use Rattle.standard.specs.Syntax.{syntax}
 use Rattle.standard.specs.Rows.{State, fresh}
 use Rattle.standard.specs.Meaning.{retain, retainIf, taken, decoded, gapped}
 use Rattle.standard.specs.Tables.{between, isFlag, rowsNumbers, countOf, stateOf, stateNumbers, allForm, inForm}
-use Rattle.standard.specs.Calls.{Done, over, unchanged, hasRoom, accept, decline, settle, decode, zeros, renewed, programmeStart, reset, gap}
-use Rattle.standard.specs.Journal.{payload, startNotice, replyTo}
-use Rattle.standard.specs.Events.{Notice, ofGap, ofReset, Event, starts, heard, missed, warns, warnsBoth, run, noticed, first, second, after, noticeOf, firstGets, secondGets, firstCall, secondCall, Beside, lend, Turn, events, firstTurn, secondTurn}
+use Rattle.standard.specs.Calls.{Lent, Done, over, unchanged, hasRoom, accept, decline, settle, decode, zeros, renewed, programmeStart, reset, gap}
+use Rattle.standard.specs.Journal.{Record, payload, gapNotice, resetNotice, startNotice, replyTo}
+use Rattle.standard.specs.Events.{Event, run, firstGets, secondGets, stateAfter, first, second, after, firstCall, secondCall, Beside, lend, beside, Turn, events, firstTurn, secondTurn}
 use Rattle.standard.proofs.Small.{and-left, and-right, both}
 use Rattle.standard.proofs.RowsOfFrame.{last-rows-length}
 use Rattle.standard.proofs.Forms.{RowOk}
 use Rattle.standard.proofs.FormKept.{last-rows-form, all-form, form-all}
 use Rattle.standard.proofs.Laid.{over-length, over-same, state-back, state-length}
 use Rattle.standard.proofs.Endings.{Fit, fit}
+use Rattle.standard.proofs.Lengths.{lengths-stay}
 
 -- Tables that are long enough and in form
 
@@ -190,34 +191,27 @@ reset-again l = go (leb retainedLength (length l)) refl
 
 -- Programmes
 
-payload-holds : (b : Beside) (l : List ℤ) (st : State) (s : List ℕ) → Enough b → Holds l st → Holds (after (lend b l) (payload s) .retained) (decoded st s)
-unfolding after replyTo
-payload-holds b l st s n h = rw (← h .state) (decode-holds b l s n (h .good))
+record-holds : (l : Lent) (st : State) (r : Record) → Enough (beside l) → Holds (l .retained) st → Holds (after l r .retained) (stateAfter st r)
+unfolding after replyTo stateAfter
+record-holds l st (payload s) n h = rw (← h .state) (decode-holds (beside l) (l .retained) s n (h .good))
+record-holds l st gapNotice n h = rw (← h .state) (gap-holds (l .retained) (h .good))
+record-holds l st resetNotice n h = reset-holds (l .retained) (h .good .long)
+record-holds l st startNotice n h = start-holds (l .retained) (h .good .long)
 
-start-record : (b : Beside) (l : List ℤ) (st : State) → Holds l st → Holds (after (lend b l) startNotice .retained) fresh
-unfolding after replyTo
-start-record b l st h = start-holds l (h .good .long)
+-- room stays room
+pub enough-after : (l : Lent) (r : Record) → Enough (beside l) → Enough (beside (after l r))
+enough-after l r n =
+    let e = lengths-stay l r in
+    record {
+      start = ap (leb startLength) (e .start) ∙ n .start;
+      blocks = ap (leb blocksLength) (e .blocks) ∙ n .blocks;
+      timings = ap (leb timingsLength) (e .timings) ∙ n .timings;
+    }
 
-notice-record : (b : Beside) (l : List ℤ) (st : State) (n : Notice) → Holds l st → Holds (after (lend b l) (noticeOf n) .retained) (noticed n st)
-unfolding after replyTo noticeOf noticed
-notice-record b l st ofGap h = rw (← h .state) (gap-holds l (h .good))
-notice-record b l st ofReset h = reset-holds l (h .good .long)
-
-first-holds : (b : Beside) (l : List ℤ) (st : State) (e : Event) → Enough b → Holds l st → Holds (firstCall (lend b l) e .retained) (first st e)
-unfolding firstCall firstGets first run
-first-holds b l st starts n h = start-record b l st h
-first-holds b l st (heard s) n h = payload-holds b l st s n h
-first-holds b l st (missed s) n h = payload-holds b l st s n h
-first-holds b l st (warns x) n h = h
-first-holds b l st (warnsBoth x) n h = notice-record b l st x h
-
-second-holds : (b : Beside) (l : List ℤ) (st : State) (e : Event) → Enough b → Holds l st → Holds (secondCall (lend b l) e .retained) (second st e)
-unfolding secondCall secondGets second run
-second-holds b l st starts n h = start-record b l st h
-second-holds b l st (heard s) n h = payload-holds b l st s n h
-second-holds b l st (missed s) n h = h
-second-holds b l st (warns x) n h = notice-record b l st x h
-second-holds b l st (warnsBoth x) n h = notice-record b l st x h
+records-hold : (rs : List Record) (l : Lent) (st : State) → Enough (beside l) → Holds (l .retained) st → Holds (run after l rs .retained) (run stateAfter st rs)
+unfolding run
+records-hold [] l st n h = h
+records-hold (r ∷ rs) l st n h = records-hold rs (after l r) (stateAfter st r) (enough-after l r n) (record-holds l st r n h)
 
 -- a step keeps a table and its state together wherever the turn has room
 turns-hold : (Roomy : Turn → Type 0) (f : List ℤ → Turn → List ℤ) (g : State → Event → State)
@@ -236,9 +230,9 @@ abbrev pub SecondRoomy : Turn → Type 0
 SecondRoomy t = Enough (t .two)
 
 pub first-run : (l : List ℤ) (ts : List Turn) → All FirstRoomy ts → Holds l fresh → Holds (run firstTurn l ts) (run first fresh (events ts))
-unfolding firstTurn
-first-run l ts n h = turns-hold FirstRoomy firstTurn first (λ l st t. first-holds (t .one) l st (t .event)) l fresh ts n h
+unfolding firstTurn firstCall first
+first-run l ts n h = turns-hold FirstRoomy firstTurn first (λ l st t. records-hold (firstGets (t .event)) (lend (t .one) l) st) l fresh ts n h
 
 pub second-run : (l : List ℤ) (ts : List Turn) → All SecondRoomy ts → Holds l fresh → Holds (run secondTurn l ts) (run second fresh (events ts))
-unfolding secondTurn
-second-run l ts n h = turns-hold SecondRoomy secondTurn second (λ l st t. second-holds (t .two) l st (t .event)) l fresh ts n h
+unfolding secondTurn secondCall second
+second-run l ts n h = turns-hold SecondRoomy secondTurn second (λ l st t. records-hold (secondGets (t .event)) (lend (t .two) l) st) l fresh ts n h

@@ -12,8 +12,7 @@ use Rattle.standard.specs.Calls.{Lent, decode}
 use Rattle.standard.specs.Journal.{Record, startNotice, replyTo}
 use Rattle.standard.specs.Events.{Event, starts, run, goneAstray, first, second, after, firstGets, secondGets, firstCall, secondCall, beside, Turn, events, firstTurn, secondTurn}
 use Rattle.standard.proofs.Marks.{noGap, no-gap, no-gap-since}
-use Rattle.standard.proofs.Tabled.{Enough, Holds, start-holds, FirstRoomy, SecondRoomy, first-run, second-run}
-use Rattle.standard.proofs.Lengths.{lengths-stay}
+use Rattle.standard.proofs.Tabled.{Enough, Holds, start-holds, enough-after, FirstRoomy, SecondRoomy, first-run, second-run}
 use Rattle.standard.proofs.OnCalls.{CallsAgree, demand3-turns}
 use Rattle.standard.proofs.MarksOnCalls.{FrameSettled, settled-call}
 
@@ -39,15 +38,6 @@ second-turns l m [] = refl
 second-turns l m (e ∷ es) = second-turns (firstCall l e) (secondCall m e) es
 
 -- Room stays room
-
-enough-after : (l : Lent) (r : Record) → Enough (beside l) → Enough (beside (after l r))
-enough-after l r n =
-    let e = lengths-stay l r in
-    record {
-      start = ap (leb startLength) (e .start) ∙ n .start;
-      blocks = ap (leb blocksLength) (e .blocks) ∙ n .blocks;
-      timings = ap (leb timingsLength) (e .timings) ∙ n .timings;
-    }
 
 records-enough : (l : Lent) (rs : List Record) → Enough (beside l) → Enough (beside (run after l rs))
 unfolding run

@@ -28,25 +28,25 @@ module _ {A E : Type 0} where
 -- Whether the second can know that it missed something
 
 pub data Following : Type 0 where
-  abreast : Following  -- it missed nothing that it was not warned of
-  warned : Following  -- it got a notice, and no payload since
-  astray : Following  -- it missed a payload, and got no notice since the last one that it heard
+  warned : Following  -- it got a notice since the last payload that both heard
+  astray : Following  -- it missed a payload unwarned, and got no notice since
+  abreast : Following  -- neither
 
 unfoldable pub follow : Following → Event → Following
 follow f starts = abreast
 follow f (warns n) = warned
 follow f (warnsBoth n) = warned
-follow astray (heard s) = astray
-follow abreast (heard s) = abreast
 follow warned (heard s) = abreast
 follow warned (missed s) = warned
-follow abreast (missed s) = astray
+follow astray (heard s) = astray
 follow astray (missed s) = astray
+follow abreast (heard s) = abreast
+follow abreast (missed s) = astray
 
 abbrev pub isAstray : Following → Bool
-isAstray abreast = false
 isAstray warned = false
 isAstray astray = true
+isAstray abreast = false
 
 -- after these events, which begin with both alike
 abbrev pub goneAstray : List Event → Bool
@@ -69,30 +69,7 @@ inPlace (heard s ∷ es) = inPlace es
 inPlace (warns n ∷ es) = inPlace es
 inPlace (warnsBoth n ∷ es) = inPlace es
 
--- As states
-
-unfoldable pub noticed : Notice → State → State
-noticed ofGap st = gapped st
-noticed ofReset st = gapped fresh
-
-unfoldable pub first : State → Event → State
-first st starts = fresh
-first st (heard s) = decoded st s
-first st (missed s) = decoded st s
-first st (warns n) = st
-first st (warnsBoth n) = noticed n st
-
-unfoldable pub second : State → Event → State
-second st starts = fresh
-second st (heard s) = decoded st s
-second st (missed s) = st
-second st (warns n) = noticed n st
-second st (warnsBoth n) = noticed n st
-
--- As calls: the tables that a record leaves
-
-unfoldable pub after : Lent → Record → Lent
-after l r = replyTo l r .lent
+-- What each gets
 
 unfoldable pub noticeOf : Notice → Record
 noticeOf ofGap = gapNotice
@@ -111,6 +88,25 @@ secondGets (heard s) = payload s ∷ []
 secondGets (missed s) = []
 secondGets (warns n) = noticeOf n ∷ []
 secondGets (warnsBoth n) = noticeOf n ∷ []
+
+-- As states: the state that a record leaves
+
+unfoldable pub stateAfter : State → Record → State
+stateAfter st (payload s) = decoded st s
+stateAfter st gapNotice = gapped st
+stateAfter st resetNotice = gapped fresh
+stateAfter st startNotice = fresh
+
+unfoldable pub first : State → Event → State
+first st e = run stateAfter st (firstGets e)
+
+unfoldable pub second : State → Event → State
+second st e = run stateAfter st (secondGets e)
+
+-- As calls: the tables that a record leaves
+
+unfoldable pub after : Lent → Record → Lent
+after l r = replyTo l r .lent
 
 -- Threaded: each call is lent all four tables as the last one left them
 
@@ -152,5 +148,5 @@ secondTurn l t = secondCall (lend (t .two) l) (t .event) .retained
 -- What computing opens
 
 unfoldable pub computed : Unit {0}
-unfolding run follow inPlace noticed first second after noticeOf firstGets secondGets firstCall secondCall firstTurn secondTurn
+unfolding run follow inPlace noticeOf firstGets secondGets stateAfter first second after firstCall secondCall firstTurn secondTurn
 computed = tt

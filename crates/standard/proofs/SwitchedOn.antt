@@ -1,6 +1,7 @@
 -- A rack that is switched on in mid-programme and only reset: what it does not mark is what a decoder holds that heard all.
 use Prim.Native.Nat.{ℕ}
-use mathlib.Core.Path.{_≡_, refl, ap}
+use mathlib.Core.Path.{_≡_, refl, _∙_, ap}
+use mathlib.Core.Bool.{false}
 use mathlib.Core.List.{List, [], _∷_, _++_, map}
 use Rattle.standard.specs.Calls.{Lent, decode}
 use Rattle.standard.specs.Journal.{resetNotice, withRetained, replyTo}
@@ -9,34 +10,34 @@ use Rattle.standard.proofs.OnCalls.{CallsAgree}
 use Rattle.standard.proofs.Threaded.{Roomy, begun, demand3-threaded}
 use Rattle.standard.proofs.Tabled.{reset-again}
 
--- all these payloads were missed, and then comes a reset
-abbrev away : List (List ℕ) → List Event
-away ss = map missed ss ++ warns ofReset ∷ []
+-- these payloads were missed, then comes a reset, and then these events
+abbrev away : List (List ℕ) → List Event → List Event
+away ss es = map missed ss ++ warns ofReset ∷ es
 
-warned-last : (f : Following) (ss : List (List ℕ)) → run follow f (away ss) ≡ warned
+warned-by-it : (f : Following) (ss : List (List ℕ)) (es : List Event) → run follow f (away ss es) ≡ run follow warned es
 unfolding run follow
-warned-last f [] = refl
-warned-last f (s ∷ ss) = warned-last (follow f (missed s)) ss
+warned-by-it f [] es = refl
+warned-by-it f (s ∷ ss) es = warned-by-it (follow f (missed s)) ss es
 
-first-heard : (l : Lent) (ss : List (List ℕ)) → run firstCall l (away ss) ≡ run firstCall l (map missed ss)
+first-heard : (l : Lent) (ss : List (List ℕ)) (es : List Event) → run firstCall l (away ss es) ≡ run firstCall l (map missed ss ++ es)
 unfolding run firstCall firstGets
-first-heard l [] = refl
-first-heard l (s ∷ ss) = first-heard (firstCall l (missed s)) ss
+first-heard l [] es = refl
+first-heard l (s ∷ ss) es = first-heard (firstCall l (missed s)) ss es
 
-second-was-away : (l : Lent) (ss : List (List ℕ)) → run secondCall l (away ss) ≡ after l resetNotice
+second-was-away : (l : Lent) (ss : List (List ℕ)) (es : List Event) → run secondCall l (away ss es) ≡ run secondCall (after l resetNotice) es
 unfolding run secondCall secondGets noticeOf
-second-was-away l [] = refl
-second-was-away l (s ∷ ss) = second-was-away l ss
+second-was-away l [] es = refl
+second-was-away l (s ∷ ss) es = second-was-away l ss es
 
 -- a reset makes nothing of what was retained
 reset-begun : (l : Lent) → after (begun l) resetNotice ≡ after l resetNotice
 unfolding after replyTo
 reset-begun l = ap (withRetained l) (reset-again (l .retained))
 
--- One decoder begins with programme start and hears these payloads. A rack is then switched on, with anything in its tables, and reset. A
--- payload that both hear finds them in agreement.
-pub switched-on : (l m : Lent) (ss : List (List ℕ)) (s : List ℕ) → Roomy l → Roomy m
-    → CallsAgree (decode s (run firstCall (begun l) (map missed ss))) (decode s (after m resetNotice))
-switched-on l m ss s b c =
-    rw (first-heard (begun l) ss, second-was-away (begun m) ss, reset-begun m) at
-    (demand3-threaded l m (away ss) s b c (ap isAstray (warned-last abreast ss)))
+-- One decoder begins with programme start and hears these payloads. Then a rack is switched on, with anything in its tables, and reset. Both
+-- go on with one programme, and a payload that both hear finds them in agreement, unless the rack has gone astray since.
+pub switched-on : (l m : Lent) (ss : List (List ℕ)) (es : List Event) (s : List ℕ) → Roomy l → Roomy m → isAstray (run follow warned es) ≡ false
+    → CallsAgree (decode s (run firstCall (begun l) (map missed ss ++ es))) (decode s (run secondCall (after m resetNotice) es))
+switched-on l m ss es s b c a =
+    rw (first-heard (begun l) ss es, second-was-away (begun m) ss es, reset-begun m) at
+    (demand3-threaded l m (away ss es) s b c (ap isAstray (warned-by-it abreast ss es) ∙ a))

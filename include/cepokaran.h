@@ -1,7 +1,7 @@
 /*
  * Cepokaran: a decoder for the object metadata (OAMD) of E-AC-3, for C.
  *
- * Seven calls over tables that the caller lends. No call allocates, keeps a pointer, prints or has
+ * Eight calls over tables that the caller lends. No call allocates, keeps a pointer, prints or has
  * state of its own: everything that a decoder remembers lies in the table `retained`. So one
  * `retained` table is one decoder, and calls on tables of their own may run at the same time.
  *
@@ -103,19 +103,37 @@ enum cepokaran_number {
 
 /* ---- The retained table ---------------------------------------------------------------------- */
 
-/* Number 0 is the object count, number 1 the doubt (1 after a gap notice), and then come the rows of
- * the last block that was accepted. All zeros is a fresh decoder. A table that starts fresh and is
- * written by these calls alone is in form for ever; it may be stored, copied and compared as it is. */
+/* Number 0 is the object count, number 1 the doubt (1 after a gap notice or a reset), and then come the
+ * rows of the last block that was accepted. A table that was started or reset, and is written by these
+ * calls alone, is in form for ever; it may be stored, copied and compared as it is.
+ *
+ * Which of the three calls, and when:
+ *
+ *   oamd_start  at the head of a programme: the first payload to come is the programme's first.
+ *   oamd_reset  when the rack is switched on or re-patched: a programme may be under way.
+ *   oamd_gap    when something was missed: a power dip, a seek, a lost frame.
+ *
+ * After a reset or a gap notice the next accepted payload shows as unsettled what it does not tell
+ * itself. If in doubt, reset: a reset at the head of a programme makes nothing wrong, and start in
+ * the middle of one shows default places as true. */
 
 /*
- * Makes a fresh decoder: the first CEPOKARAN_RETAINED_LENGTH numbers become 0.
+ * A programme starts: the first CEPOKARAN_RETAINED_LENGTH numbers become 0, whatever they were. A table
+ * of zeros needs no start.
+ * Refused, and nothing changes: ROOM.
+ */
+uint32_t oamd_start(int16_t *retained, size_t retained_len);
+
+/*
+ * Forgets everything, in doubt: the first CEPOKARAN_RETAINED_LENGTH numbers become 0, whatever they were,
+ * but for the doubt, which becomes 1. It is oamd_start and then oamd_gap.
  * Refused, and nothing changes: ROOM.
  */
 uint32_t oamd_reset(int16_t *retained, size_t retained_len);
 
 /*
- * A gap notice: payloads may have been missed. The doubt becomes 1, and nothing else changes. Give
- * it before the first payload after a power dip, a seek, or a lost frame.
+ * A gap notice: payloads may have been missed. The doubt becomes 1, and nothing else changes. Give it
+ * before the first payload after what was missed.
  * Refused in this order, and nothing changes: ROOM, FORM.
  */
 uint32_t oamd_gap(int16_t *retained, size_t retained_len);
@@ -143,11 +161,11 @@ enum {
  * stands before the first block), blocks * objects rows of blocks, and 2 * blocks numbers of timings;
  * the rest of these tables is unchanged. Retained becomes the last block's rows, without doubt.
  *
- * A row's mark says what to believe after payloads were missed and a gap notice was given for them.
- * What is settled is what a decoder would hold that missed nothing. In a block row the mark stands for
- * x to elevation; kind, active, gain and priority are such anyway. In a start row it stands for all but
- * the kind. A block row is settled once a payload tells the whole of its picture. Without a gap notice
- * since the decoder was fresh, every row is settled.
+ * A row's mark says what to believe after payloads were missed and a gap notice or a reset was given for
+ * them. What is settled is what a decoder would hold that missed nothing. In a block row the mark stands
+ * for x to elevation; kind, active, gain and priority are such anyway. In a start row it stands for all
+ * but the kind. A block row is settled once a payload tells the whole of its picture. Without a gap notice
+ * or a reset since the last start, or since a table of zeros, every row is settled.
  *
  * The timings are not tested here: oamd_timing does that, and undoes nothing.
  */

@@ -6,23 +6,23 @@ use mathlib.Core.List.{List, [], _∷_}
 use Rattle.bits.proofs.Always.{Ok, All}
 use Rattle.standard.specs.Rows.{State, fresh, is}
 use Rattle.standard.specs.Meaning.{taken, decoded, gapped}
-use Rattle.standard.specs.Events.{Notice, ofGap, ofReset, Event, starts, heard, missed, warns, warnsBoth, run, Following, abreast, warned, astray, follow, isAstray, goneAstray, noticeOf, firstGets, secondGets, stateAfter, first, second}
+use Rattle.standard.specs.Events.{Warning, ofGap, ofReset, Event, starts, heard, missed, warns, warnsBoth, run, Following, abreast, warned, astray, follow, isAstray, goneAstray, warningOf, firstGets, secondGets, stateAfter, first, second}
 use Rattle.standard.proofs.Small.{Pairs}
 use Rattle.standard.proofs.FirstUpdates.{first-block}
 use Rattle.standard.proofs.Agreement.{RowAgree}
 use Rattle.standard.proofs.Related.{Fixed, Related, heard-related, heard-fixed, fresh-related, Agreement, agreed}
 
--- A notice
+-- A warning
 
-notice-fixed : (n : Notice) (st : State) → All Fixed (st .rows) → All Fixed (stateAfter st (noticeOf n) .rows)
-unfolding stateAfter noticeOf gapped fresh
-notice-fixed ofGap st h = h
-notice-fixed ofReset st h = tt
+warning-fixed : (n : Warning) (st : State) → All Fixed (st .rows) → All Fixed (stateAfter st (warningOf n) .rows)
+unfolding stateAfter warningOf gapped fresh
+warning-fixed ofGap st h = h
+warning-fixed ofReset st h = tt
 
-notice-doubts : (n : Notice) (st : State) → is 0 (stateAfter st (noticeOf n) .doubt) ≡ false
-unfolding stateAfter noticeOf gapped
-notice-doubts ofGap st = refl
-notice-doubts ofReset st = refl
+warning-doubts : (n : Warning) (st : State) → is 0 (stateAfter st (warningOf n) .doubt) ≡ false
+unfolding stateAfter warningOf gapped
+warning-doubts ofGap st = refl
+warning-doubts ofReset st = refl
 
 -- By how the second follows: abreast, its rows agree unless there is doubt; warned, there is; astray, nothing is known
 abbrev Known : Following → State → State → Type 0
@@ -68,8 +68,8 @@ step-follows f a b starts h = related-follows fresh fresh fresh-related
 step-follows f a b (heard s) h = heard-follows f a b s h
 step-follows f a b (missed s) h =
     record { fixed₁ = heard-fixed a (taken s) (first-block s) (h .fixed₁); fixed₂ = h .fixed₂; known = missed-known f a (decoded a s) b s (h .known) }
-step-follows f a b (warns n) h = record { fixed₁ = h .fixed₁; fixed₂ = notice-fixed n b (h .fixed₂); known = notice-doubts n b }
-step-follows f a b (warnsBoth n) h = record { fixed₁ = notice-fixed n a (h .fixed₁); fixed₂ = notice-fixed n b (h .fixed₂); known = notice-doubts n b }
+step-follows f a b (warns n) h = record { fixed₁ = h .fixed₁; fixed₂ = warning-fixed n b (h .fixed₂); known = warning-doubts n b }
+step-follows f a b (warnsBoth n) h = record { fixed₁ = warning-fixed n a (h .fixed₁); fixed₂ = warning-fixed n b (h .fixed₂); known = warning-doubts n b }
 
 run-follows : (f : Following) (a b : State) (es : List Event) → Follows f a b → Follows (run follow f es) (run first a es) (run second b es)
 unfolding run

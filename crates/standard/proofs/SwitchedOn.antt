@@ -5,7 +5,7 @@ use mathlib.Core.Bool.{false}
 use mathlib.Core.List.{List, [], _∷_, _++_, map}
 use Rattle.standard.specs.Calls.{Lent, decode}
 use Rattle.standard.specs.Journal.{resetNotice, withRetained, replyTo}
-use Rattle.standard.specs.Events.{ofReset, Event, missed, warns, run, Following, abreast, warned, follow, isAstray, after, noticeOf, firstGets, secondGets, firstCall, secondCall}
+use Rattle.standard.specs.Events.{ofReset, Event, missed, warns, run, Following, abreast, warned, follow, isAstray, after, warningOf, firstGets, secondGets, firstCall, secondCall}
 use Rattle.standard.proofs.OnCalls.{CallsAgree}
 use Rattle.standard.proofs.Threaded.{Roomy, begun, demand3-threaded}
 use Rattle.standard.proofs.Tabled.{reset-again}
@@ -25,7 +25,7 @@ first-heard l [] es = refl
 first-heard l (s ∷ ss) es = first-heard (firstCall l (missed s)) ss es
 
 second-was-away : (l : Lent) (ss : List (List ℕ)) (es : List Event) → run secondCall l (away ss es) ≡ run secondCall (after l resetNotice) es
-unfolding run secondCall secondGets noticeOf
+unfolding run secondCall secondGets warningOf
 second-was-away l [] es = refl
 second-was-away l (s ∷ ss) es = second-was-away l ss es
 

@@ -8,16 +8,16 @@ use Rattle.standard.specs.Meaning.{decoded, gapped}
 use Rattle.standard.specs.Calls.{Lent}
 use Rattle.standard.specs.Journal.{Record, payload, gapNotice, resetNotice, startNotice, replyTo}
 
--- a reset counts as a gap
-pub data Notice : Type 0 where
-  ofGap ofReset : Notice
+-- a gap notice, or a reset, which counts as a gap
+pub data Warning : Type 0 where
+  ofGap ofReset : Warning
 
 pub data Event : Type 0 where
   starts : Event  -- a programme start, to both
   heard : List ℕ → Event  -- a payload, to both
   missed : List ℕ → Event  -- a payload, to the first alone
-  warns : Notice → Event  -- to the second alone
-  warnsBoth : Notice → Event
+  warns : Warning → Event  -- to the second alone
+  warnsBoth : Warning → Event
 
 module _ {A E : Type 0} where
   -- one event after the other
@@ -28,8 +28,8 @@ module _ {A E : Type 0} where
 -- Whether the second can know that it missed something
 
 pub data Following : Type 0 where
-  warned : Following  -- it got a notice since the last payload that both heard
-  astray : Following  -- it missed a payload unwarned, and got no notice since
+  warned : Following  -- it got a warning since the last payload that both heard
+  astray : Following  -- it missed a payload unwarned, and got no warning since
   abreast : Following  -- neither
 
 unfoldable pub follow : Following → Event → Following
@@ -71,23 +71,23 @@ inPlace (warnsBoth n ∷ es) = inPlace es
 
 -- What each gets
 
-unfoldable pub noticeOf : Notice → Record
-noticeOf ofGap = gapNotice
-noticeOf ofReset = resetNotice
+unfoldable pub warningOf : Warning → Record
+warningOf ofGap = gapNotice
+warningOf ofReset = resetNotice
 
 unfoldable pub firstGets : Event → List Record
 firstGets starts = startNotice ∷ []
 firstGets (heard s) = payload s ∷ []
 firstGets (missed s) = payload s ∷ []
 firstGets (warns n) = []
-firstGets (warnsBoth n) = noticeOf n ∷ []
+firstGets (warnsBoth n) = warningOf n ∷ []
 
 unfoldable pub secondGets : Event → List Record
 secondGets starts = startNotice ∷ []
 secondGets (heard s) = payload s ∷ []
 secondGets (missed s) = []
-secondGets (warns n) = noticeOf n ∷ []
-secondGets (warnsBoth n) = noticeOf n ∷ []
+secondGets (warns n) = warningOf n ∷ []
+secondGets (warnsBoth n) = warningOf n ∷ []
 
 -- As states: the state that a record leaves
 
@@ -148,5 +148,5 @@ secondTurn l t = secondCall (lend (t .two) l) (t .event) .retained
 -- What computing opens
 
 unfoldable pub computed : Unit {0}
-unfolding run follow inPlace noticeOf firstGets secondGets stateAfter first second after firstCall secondCall firstTurn secondTurn
+unfolding run follow inPlace warningOf firstGets secondGets stateAfter first second after firstCall secondCall firstTurn secondTurn
 computed = tt

@@ -26,12 +26,12 @@ Agree es = CallsAgree (decode restOne (run firstCall freshTables es)) (decode re
 atX : Position → ℕ
 atX p = natAbs (p .x)
 
--- a payload that the first alone hears, without a notice,
+-- a payload that the first alone hears, without a warning,
 pub unwarned : Agree (heard movedOne ∷ missed onward ∷ []) → ⊥
 unfolding written atX
 unwarned h = let e : _≡_ {A = ℕ} 40 10 = ap atX (h .frames .blocks .0 .picture itsPosition refl) in omega arith
 
--- and one behind a notice that a payload has used up
+-- and one behind a warning that a payload has used up
 pub warned-before : Agree (warns ofGap ∷ heard movedOne ∷ missed onward ∷ []) → ⊥
 unfolding written atX
 warned-before h = let e : _≡_ {A = ℕ} 40 10 = ap atX (h .frames .blocks .0 .picture itsPosition refl) in omega arith
@@ -46,7 +46,7 @@ pub warned-before-astray : goneAstray (warns ofGap ∷ heard movedOne ∷ missed
 unfolding written
 warned-before-astray = refl
 
--- Nobody is with a notice between the two payloads that both hear, of either sort, to one or to both, before or after what is missed,
+-- Nobody is with a warning between the two payloads that both hear, of either sort, to one or to both, before or after what is missed,
 
 pub warned-after-it : goneAstray (heard movedOne ∷ missed onward ∷ missed movedOne ∷ warns ofReset ∷ []) ≡ false
 unfolding written
@@ -56,7 +56,7 @@ pub warned-ahead : goneAstray (heard movedOne ∷ warnsBoth ofGap ∷ missed onw
 unfolding written
 warned-ahead = refl
 
--- nor behind a programme start, nor with a notice that came late
+-- nor behind a programme start, nor with a warning that came late
 pub started-since : goneAstray (heard movedOne ∷ missed onward ∷ starts ∷ []) ≡ false
 unfolding written
 started-since = refl

@@ -23,6 +23,7 @@ use journals::lines::LINE_LENGTH;
 use journals::lines::put_last;
 use journals::prints::Printed;
 use journals::prints::print_next;
+use rows::calls::programme_start;
 use rows::numbers::BLOCKS_LENGTH;
 use rows::numbers::RETAINED_LENGTH;
 use rows::numbers::START_LENGTH;
@@ -104,6 +105,8 @@ fn main() {
     let mut start = [0i16; START_LENGTH];
     let mut blocks = [0i16; BLOCKS_LENGTH];
     let mut timings = [0u16; TIMINGS_LENGTH];
+    // A journal begins with a programme, for which the table has room.
+    programme_start(&mut retained);
     let mut place = Place::new();
     let mut turns = u64::MAX;
     while turns > 0 {

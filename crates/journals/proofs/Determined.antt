@@ -12,11 +12,11 @@ use Rattle.oamd.specs.Promises.{lent}
 use Rattle.journals.specs.Say.{saidFound, saidReply}
 use Rattle.journals.specs.Promises.{Placed, Left}
 use Rattle.journals.specs.Turns.{Happened, replied, waits, stops, Turned, saidTurn, TurnLeft}
-use Rattle.journals.specs.declared.records.Kind.the-variants.{Payload, Gap, Reset}
+use Rattle.journals.specs.declared.records.Kind.the-variants.{Payload, Gap, Reset, Start}
 use Rattle.journals.specs.declared.records.Found.{Found}
 use Rattle.journals.specs.declared.records.Found.the-variants.{Whole, More, Unknown}
 use Rattle.journals.specs.declared.replies.Reply.{Reply}
-use Rattle.journals.specs.declared.replies.Reply.the-variants.{Answered, Noted, Cleared}
+use Rattle.journals.specs.declared.replies.Reply.the-variants.{Answered, Noted, Cleared, Started}
 use Rattle.journals.specs.declared.turns.Turn.{Turn}
 use Rattle.journals.specs.declared.turns.Turn.the-variants.{Replied}
 use Rattle.journals.specs.declared.turns.Turn.the-variants as turn
@@ -29,6 +29,7 @@ foundBy : paper.Step → Found
 foundBy (paper.whole (paper.payload b) k) = Whole Payload 4 k
 foundBy (paper.whole paper.gapNotice k) = Whole Gap 2 k
 foundBy (paper.whole paper.resetNotice k) = Whole Reset 2 k
+foundBy (paper.whole paper.startNotice k) = Whole Start 2 k
 foundBy paper.more = More
 foundBy paper.unknown = Unknown
 
@@ -37,6 +38,7 @@ unfolding foundBy
 found-back s (Whole Payload body end) p = rw (p .begins)
 found-back s (Whole Gap body end) p = rw (p .begins)
 found-back s (Whole Reset body end) p = rw (p .begins)
+found-back s (Whole Start body end) p = rw (p .begins)
 found-back s More p = refl
 found-back s Unknown p = refl
 
@@ -57,12 +59,14 @@ replyBy (paper.answered a) =
     })
 replyBy paper.noted = Noted
 replyBy paper.cleared = Cleared
+replyBy paper.started = Started
 
 reply-back : (a : Reply) → replyBy (saidReply a) ≡ a
 unfolding replyBy
 reply-back (Answered a) = refl
 reply-back Noted = refl
 reply-back Cleared = refl
+reply-back Started = refl
 
 -- and a turn
 turnBy : Happened → Turn

@@ -1,17 +1,18 @@
--- What a decoding, a gap and a reset leave is what the reply says of them.
+-- What a decoding and a notice leave is what the reply says of them.
 use Prim.Native.Nat.{ℕ}
 use mathlib.Core.Path.{_≡_, refl, sym, _∙_, ap}
 use mathlib.Core.List.{List}
 use lib.IntN.{ℤ}
-use Rattle.standard.specs.Calls.{Lent, Done, decode, reset, gap}
-use Rattle.standard.specs.Journal.{payload, gapNotice, resetNotice, answered, replyTo}
-use Rattle.rows.specs.Promises as rows
+use Rattle.standard.specs.Calls.{Lent, Done, decode}
+use Rattle.standard.specs.Journal.{payload, answered, replyTo}
 use Rattle.oamd.specs.Promises as oamd
+use Rattle.oamd.specs.Promises.{lent}
 use Rattle.oamd.specs.declared.decoder.Decoded.{Decoded}
-use Rattle.journals.specs.Say.{saidAnswer}
+use Rattle.journals.specs.Say.{saidAnswer, saidReply}
 use Rattle.journals.specs.Promises.{Answers, Left}
 use Rattle.journals.specs.declared.replies.Answer.{Answer}
-use Rattle.journals.specs.declared.replies.Reply.the-variants.{Answered, Noted, Cleared}
+use Rattle.journals.specs.declared.replies.Reply.{Reply}
+use Rattle.journals.specs.declared.replies.Reply.the-variants.{Answered}
 
 module _ {r s b : List ℤ} {t : List ℕ} where
   pub decoding-told : {d : Done} {x y : Decoded} {a : Answer} → oamd.Left d x r s b t → x ≡ y → saidAnswer a ≡ oamd.saidDecoded y → Answers d a r s b t
@@ -35,11 +36,6 @@ module _ {r s b : List ℤ} {t : List ℕ} where
         timings = a .timings;
       }
 
-module _ (l : Lent) {n : ℕ} {r : List ℤ} where
-  pub gap-replied : rows.Left (gap (l .retained)) n r → Left (replyTo l gapNotice) Noted r (l .start) (l .blocks) (l .timings)
-  unfolding replyTo
-  gap-replied k = record { reply = refl; retained = k .retained; start = refl; blocks = refl; timings = refl }
-
-  pub reset-replied : rows.Left (reset (l .retained)) n r → Left (replyTo l resetNotice) Cleared r (l .start) (l .blocks) (l .timings)
-  unfolding replyTo
-  reset-replied k = record { reply = refl; retained = k .retained; start = refl; blocks = refl; timings = refl }
+  -- a call on the retained table alone
+  pub notice-replied : {a : Reply} {l : List ℤ} → r ≡ l → Left (record { reply = saidReply a; lent = lent l s b t }) a r s b t
+  notice-replied e = record { reply = refl; retained = e; start = refl; blocks = refl; timings = refl }

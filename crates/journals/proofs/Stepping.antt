@@ -7,10 +7,12 @@ use native.Mathlib.Omega.{arith}
 use borrow.Author.Tests.{le-leb, lt-leb}
 use lib.Dec.{eqb, leb}
 use lib.ListN.{length, getD, take, drop, length-drop}
-use Rattle.standard.specs.Journal.{payload, gapNotice, resetNotice, whole, more, unknown, payloadStep, step}
-use Rattle.journals.specs.Promises.{Stepped}
-use Rattle.journals.specs.declared.records.Kind.the-variants.{Payload, Gap, Reset}
-use Rattle.journals.specs.declared.records.Found.the-variants.{Whole, More, Unknown}
+use Rattle.standard.specs.Journal.{payload, gapNotice, resetNotice, startNotice, Step, whole, more, unknown, payloadStep, step}
+use Rattle.journals.specs.Say.{saidRecord}
+use Rattle.journals.specs.Promises.{bodyAt, Stepped}
+use Rattle.journals.specs.declared.records.Kind.{Kind}
+use Rattle.journals.specs.declared.records.Kind.the-variants.{Payload}
+use Rattle.journals.specs.declared.records.Found.the-variants.{Whole, More}
 
 -- Behind a payload's mark
 
@@ -60,32 +62,23 @@ no-mark (a ∷ b ∷ s) h = absurd (omega arith)
 abbrev pub isMark : List ℕ → ℕ → ℕ → Bool
 isMark s a b = eqb (getD s 0 0) a && eqb (getD s 1 0) b
 
-marked : (s : List ℕ) → 2 ≤ length s → step s
-    ≡ cond (isMark s 0x50 0x4c) (payloadStep (drop 2 s)) (cond (isMark s 0x47 0x50) (whole gapNotice 2) (cond (isMark s 0x52 0x53) (whole resetNotice 2) unknown))
+-- where a mark is tried, and those behind it
+
+abbrev pub fromStart : List ℕ → Step
+fromStart s = cond (isMark s 0x50 0x53) (whole startNotice 2) unknown
+
+abbrev pub fromReset : List ℕ → Step
+fromReset s = cond (isMark s 0x52 0x53) (whole resetNotice 2) (fromStart s)
+
+abbrev pub fromGap : List ℕ → Step
+fromGap s = cond (isMark s 0x47 0x50) (whole gapNotice 2) (fromReset s)
+
+pub marked : (s : List ℕ) → 2 ≤ length s → step s ≡ cond (isMark s 0x50 0x4c) (payloadStep (drop 2 s)) (fromGap s)
 unfolding step
 marked [] h = absurd (omega arith)
 marked (a ∷ []) h = absurd (omega arith)
 marked (a ∷ b ∷ s) h = refl
 
-module _ (s : List ℕ) (h : 2 ≤ length s) where
-  pub payload-marked : isMark s 0x50 0x4c ≡ true → step s ≡ payloadStep (drop 2 s)
-  payload-marked p = rw (marked s h, p)
-
-  module _ (p : isMark s 0x50 0x4c ≡ false) where
-    pub gap-marked : isMark s 0x47 0x50 ≡ true → Stepped (step s) s (Whole Gap 2 2)
-    gap-marked g =
-        record {
-          said = rw (marked s h, p, g);
-          placed = record { begins = refl; ordered = omega arith; within = h };
-        }
-
-    module _ (g : isMark s 0x47 0x50 ≡ false) where
-      pub reset-marked : isMark s 0x52 0x53 ≡ true → Stepped (step s) s (Whole Reset 2 2)
-      reset-marked r =
-          record {
-            said = rw (marked s h, p, g, r);
-            placed = record { begins = refl; ordered = omega arith; within = h };
-          }
-
-      pub unmarked : isMark s 0x52 0x53 ≡ false → Stepped (step s) s Unknown
-      unmarked r = record { said = rw (marked s h, p, g, r); placed = tt }
+-- a record that is its mark alone
+pub bare-found : {s : List ℕ} {k : Kind} → 2 ≤ length s → bodyAt k ≡ 2 → step s ≡ whole (saidRecord k []) 2 → Stepped (step s) s (Whole k 2 2)
+bare-found h e f = record { said = sym f; placed = record { begins = sym e; ordered = omega arith; within = h } }

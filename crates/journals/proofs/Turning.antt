@@ -11,7 +11,7 @@ use Rattle.journals.specs.Say.{saidRecord}
 use Rattle.journals.specs.Promises.{bodyAt, WholeIn, Stepped, Left}
 use Rattle.journals.specs.Turns.{replied, turnOn, TurnLeft}
 use Rattle.journals.specs.declared.records.Kind.{Kind}
-use Rattle.journals.specs.declared.records.Kind.the-variants.{Payload, Gap, Reset}
+use Rattle.journals.specs.declared.records.Kind.the-variants.{Payload, Gap, Reset, Start}
 use Rattle.journals.specs.declared.records.Found.{Found}
 use Rattle.journals.specs.declared.records.Found.the-variants as found
 use Rattle.journals.specs.declared.replies.Reply.{Reply}
@@ -21,6 +21,7 @@ behind-mark : (k : Kind) → 2 ≤ bodyAt k
 behind-mark Payload = omega arith
 behind-mark Gap = omega arith
 behind-mark Reset = omega arith
+behind-mark Start = omega arith
 
 module _ {s : List ℕ} {x : paper.Step} {f : Found} (p : Stepped x s f) where
   module _ {k : Kind} {body end : ℕ} (e : f ≡ found.Whole k body end) where

@@ -21,6 +21,7 @@ abbrev pub bodyAt : Kind → ℕ
 bodyAt kind.Payload = 4
 bodyAt kind.Gap = 2
 bodyAt kind.Reset = 2
+bodyAt kind.Start = 2
 
 pub record WholeIn (n : ℕ) (k : Kind) (body end : ℕ) : Type 0 where
   pub begins : body ≡ bodyAt k

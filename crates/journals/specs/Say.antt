@@ -4,7 +4,7 @@ use mathlib.Core.List.{List}
 use lib.ListN.{take, drop}
 use Rattle.standard.specs.Calls as calls
 use Rattle.standard.specs.Journal as paper
-use Rattle.standard.specs.Journal.{Record, payload, gapNotice, resetNotice, Step, whole, more, unknown}
+use Rattle.standard.specs.Journal.{Record, payload, gapNotice, resetNotice, startNotice, Step, whole, more, unknown}
 use Rattle.journals.specs.declared.records.Kind.{Kind}
 use Rattle.journals.specs.declared.records.Kind.the-variants as kind
 use Rattle.journals.specs.declared.records.Found.{Found}
@@ -18,6 +18,7 @@ abbrev pub saidRecord : Kind → List ℕ → Record
 saidRecord kind.Payload body = payload body
 saidRecord kind.Gap body = gapNotice
 saidRecord kind.Reset body = resetNotice
+saidRecord kind.Start body = startNotice
 
 -- found in the bytes that have arrived
 abbrev pub saidFound : List ℕ → Found → Step
@@ -38,3 +39,4 @@ abbrev pub saidReply : Reply → paper.Reply
 saidReply (reply.Answered a) = paper.answered (saidAnswer a)
 saidReply reply.Noted = paper.noted
 saidReply reply.Cleared = paper.cleared
+saidReply reply.Started = paper.started

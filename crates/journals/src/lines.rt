@@ -54,6 +54,7 @@ fn put_reply(out: &mut [u8], at: usize, reply: Reply) -> usize
         Reply::Answered(answer) => put_answer(out, at, answer),
         Reply::Noted => put_word(out, at, b" gap"),
         Reply::Cleared => put_word(out, at, b" reset"),
+        Reply::Started => put_word(out, at, b" start"),
     }
 }
 

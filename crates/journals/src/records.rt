@@ -17,6 +17,7 @@ pub enum Kind {
     Payload,
     Gap,
     Reset,
+    Start,
 }
 
 // A whole record: its body begins at `body`, and the next record at `end`. Only a payload's body is not empty.
@@ -40,6 +41,9 @@ pub fn step(arrived: &[u8]) -> Found
     }
     if has_mark(arrived, 0x52, 0x53) {
         return bare(Kind::Reset);
+    }
+    if has_mark(arrived, 0x50, 0x53) {
+        return bare(Kind::Start);
     }
     Found::Unknown
 }

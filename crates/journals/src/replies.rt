@@ -1,4 +1,4 @@
-// Records to replies: a payload is decoded into the lent tables, and a gap or a reset changes the retained one.
+// Records to replies: a payload is decoded into the lent tables, and a notice changes the retained one.
 ghost use mathlib.Core.Path.{_≡_};
 ghost use Rattle.standard.specs.Calls as calls;
 ghost use Rattle.standard.specs.Journal as paper;
@@ -9,6 +9,7 @@ use crate::records::Kind;
 use oamd::decoder::Decoded;
 use oamd::decoder::decode;
 use rows::calls::gap;
+use rows::calls::programme_start;
 use rows::calls::reset;
 use rows::numbers::ACCEPTED;
 
@@ -26,9 +27,10 @@ pub enum Reply {
     Answered(Answer),
     Noted,
     Cleared,
+    Started,
 }
 
-// The body is the payload; that of a gap or a reset is not read. Their numbers are not told.
+// The body is the payload; that of a notice is not read, and the number of its call is not told.
 pub fn reply_to(
     kind: Kind,
     body: &[u8],
@@ -48,6 +50,10 @@ pub fn reply_to(
         Kind::Reset => {
             reset(retained);
             Reply::Cleared
+        }
+        Kind::Start => {
+            programme_start(retained);
+            Reply::Started
         }
     }
 }

@@ -22,7 +22,8 @@ abbrev μ-loop : tie.MeasureT-loop
 
 loop-holds : tie.Need-loop-holds Inv-loop μ-loop
 unfolding freshTables retainedLength startLength blocksLength timingsLength
-loop-holds c = (c .new .ensures .0, first (replicate inputLength 0) (replicate 65536 0) (c .new .ensures .1))
+loop-holds c =
+    (c .new .ensures .0, rw (c .before .before .programme-start .ensures .retained) (first (replicate inputLength 0) (replicate 65536 0) (c .new .ensures .1)))
 
 loop-again : tie.Need-loop-again Inv-loop μ-loop
 loop-again c =
@@ -40,6 +41,8 @@ main-spec =
     (tie.spec
     Inv-loop
     μ-loop
+    (λ c. search needs)
+    (λ c κs. search needs)
     (λ c κs. search needs)
     loop-holds
     (λ c. search needs)

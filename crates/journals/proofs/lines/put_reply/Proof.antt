@@ -18,6 +18,10 @@ returns-3 : tie.Need-returns-3
 unfolding replyText
 returns-3 c = rw (c .before .before .before .before .before .enum-told2 .given .1) (puts-within (c .before .before .put-word2 .ensures) _ (omega arith))
 
+returns-4 : tie.Need-returns-4
+unfolding replyText
+returns-4 c = rw (c .before .before .before .before .before .enum-told3 .given .1) (puts-within (c .before .before .put-word3 .ensures) _ (omega arith))
+
 pub put-reply-spec : {M : Type 1} → statement M
 put-reply-spec =
     tie.close
@@ -31,8 +35,13 @@ put-reply-spec =
     (λ c. search needs)
     (λ c κs. search needs)
     (λ c. search needs)
+    (λ c. search needs)
+    (λ c κs. search needs)
+    (λ c. search needs)
     returns
     (λ c. search needs)
     returns-2
     (λ c. search needs)
-    returns-3)
+    returns-3
+    (λ c. search needs)
+    returns-4)

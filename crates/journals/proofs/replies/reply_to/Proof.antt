@@ -1,6 +1,7 @@
 -- `journals::replies::reply_to` meets its contract, kind by kind.
 use borrow.Author.Needs.{needs}
-use Rattle.journals.proofs.Replying.{payload-replied, gap-replied, reset-replied}
+use Rattle.standard.specs.Journal.{replyTo}
+use Rattle.journals.proofs.Replying.{payload-replied, notice-replied}
 use Rattle.journals.proofs.replies.reply_to.Statement.{statement}
 use Rattle.journals.proofs.replies.reply_to.Tie as tie
 
@@ -9,16 +10,13 @@ returns c =
     let f = c .before .before .before .before .before in
     rw (f .before .before .before .before .before .enum-told .given .1) (payload-replied _ _ (f .answer-to .ensures))
 
-returns-2 : tie.Need-returns-2
-returns-2 c = rw (c .before .before .before .enum-told2 .given .1) (gap-replied _ (c .before .gap .ensures))
-
-returns-3 : tie.Need-returns-3
-returns-3 c = rw (c .before .before .before .enum-told3 .given .1) (reset-replied _ (c .before .reset .ensures))
-
 pub reply-to-spec : {M : Type 1} → statement M
+unfolding replyTo
 reply-to-spec =
     tie.close
     (tie.spec
+    (λ c. search needs)
+    (λ c κs. search needs)
     (λ c. search needs)
     (λ c κs. search needs)
     (λ c. search needs)
@@ -31,6 +29,8 @@ reply-to-spec =
     (λ c. search needs)
     returns
     (λ c. search needs)
-    returns-2
+    (λ c. rw (c .before .before .before .enum-told2 .given .1) (notice-replied (search needs)))
     (λ c. search needs)
-    returns-3)
+    (λ c. rw (c .before .before .before .enum-told3 .given .1) (notice-replied (search needs)))
+    (λ c. search needs)
+    (λ c. rw (c .before .before .before .enum-told4 .given .1) (notice-replied (search needs))))

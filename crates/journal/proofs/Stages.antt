@@ -5,8 +5,9 @@ use mathlib.Core.Bool.{Bool, true, false, _||_}
 use mathlib.Core.Logic.{_⊎_, inl, inr}
 use mathlib.Core.List.{List, [], _++_, append-assoc}
 use native.Mathlib.Omega.{arith}
+use lib.IntN.{ℤ}
 use lib.ListN.{length, take, length-append}
-use Rattle.standard.specs.Journal.{freshTables, printed}
+use Rattle.standard.specs.Journal.{withRetained, freshTables, printed}
 use Rattle.journals.specs.Buffers.{part}
 use Rattle.journals.specs.Texts.{endingText, faultLine}
 use Rattle.journals.specs.Runs as runs
@@ -29,10 +30,10 @@ more-handed {waited} {text} {waits} w handed =
     append-assoc handed (w .handed) waits ∙ ap (λ (t : List ℕ). handed ++ t) (w .same) ∙ sym (append-assoc handed waited text)
 
 -- with fresh tables, and nothing read or written
-pub first : {turns : ℕ} {r : Place} (arrived lines : List ℕ) → r ≡ record { from = 0; filled = 0; records = 0; offset = 0; waiting = 0; ended = false; failed = false }
-    → Stage turns r (standing r arrived freshTables) (take (r .waiting) lines)
+pub first : {turns : ℕ} {r : Place} {retained : List ℤ} (arrived lines : List ℕ) → r ≡ record { from = 0; filled = 0; records = 0; offset = 0; waiting = 0; ended = false; failed = false }
+    → retained ≡ freshTables .retained → Stage turns r (standing r arrived (withRetained freshTables retained)) (take (r .waiting) lines)
 unfolding atStart part
-first arrived lines e = rw e (on [] runs.begins refl)
+first arrived lines e f = rw (e, f) (on [] runs.begins refl)
 
 -- a turn, after which n are left
 pub next : {turns : ℕ} {r r′ : Place} {p q : Standing} {waited waits : List ℕ} → Stage turns r p waited → 0 < turns → Turned p waited r′ q waits

@@ -22,6 +22,8 @@ fn endings() {
     show(b"two records\n", b"GPRS");
     show(b"a lone byte\n", b"G");
     show(b"a lone byte behind a record\n", b"GPR");
+    show(b"a lone byte that begins two marks\n", b"P");
+    show(b"a start cut after its first byte\n", b"PSP");
     show(b"a mark alone\n", b"PL");
     show(b"one byte of a length\n", b"PL\x00");
     show(b"a length alone\n", b"PL\x00\x06");
@@ -35,12 +37,24 @@ fn doubts() {
         b"GPPL\x00\x06\x01\x04\x48\x00\x06\x00PL\x00\x00PL\x00",
     );
     show(
-        b"a reset ends the doubt\n",
+        b"a reset leaves doubt\n",
         b"GPRSPL\x00\x06\x01\x04\x48\x00\x06\x00",
     );
     show(
         b"a refusal leaves it\n",
         b"GPPL\x00\x00PL\x00\x06\x01\x04\x48\x00\x06\x00PL\x00\x06\x01\x04\x48\x00\x06\x00",
+    );
+    show(
+        b"a start ends the doubt of a gap\n",
+        b"GPPSPL\x00\x06\x01\x04\x48\x00\x06\x00",
+    );
+    show(
+        b"a start ends the doubt of a reset\n",
+        b"RSPSPL\x00\x06\x01\x04\x48\x00\x06\x00",
+    );
+    show(
+        b"all four marks\n",
+        b"GPPL\x00\x06\x01\x04\x48\x00\x06\x00RSPL\x00\x06\x01\x04\x48\x00\x06\x00PSPL\x00\x06\x01\x04\x48\x00\x06\x00",
     );
 }
 

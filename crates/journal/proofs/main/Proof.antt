@@ -23,7 +23,7 @@ abbrev μ-loop : tie.MeasureT-loop
 loop-holds : tie.Need-loop-holds Inv-loop μ-loop
 unfolding freshTables retainedLength startLength blocksLength timingsLength
 loop-holds c =
-    (c .new .ensures .0, rw (c .before .before .programme-start .ensures .retained) (first (replicate inputLength 0) (replicate 65536 0) (c .new .ensures .1)))
+    (c .new .ensures .0, first (replicate inputLength 0) (replicate 65536 0) (c .new .ensures .1) (search needs))
 
 loop-again : tie.Need-loop-again Inv-loop μ-loop
 loop-again c =

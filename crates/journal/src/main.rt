@@ -105,7 +105,7 @@ fn main() {
     let mut start = [0i16; START_LENGTH];
     let mut blocks = [0i16; BLOCKS_LENGTH];
     let mut timings = [0u16; TIMINGS_LENGTH];
-    // A journal begins with a programme, for which the table has room.
+    // A journal begins with a programme; the table has room, so the number is not looked at.
     programme_start(&mut retained);
     let mut place = Place::new();
     let mut turns = u64::MAX;

@@ -1,7 +1,7 @@
 -- What stands at the head of a list, by its length, its mark and its length field.
 use Prim.Native.Nat.{ℕ, _+_, _*_, _-_, _≤_, _<_}
 use mathlib.Core.Path.{_≡_, refl, sym}
-use mathlib.Core.Bool.{Bool, true, false, cond, _&&_}
+use mathlib.Core.Bool.{Bool, cond, _&&_}
 use mathlib.Core.List.{List, [], _∷_}
 use native.Mathlib.Omega.{arith}
 use borrow.Author.Tests.{le-leb, lt-leb}
@@ -62,7 +62,7 @@ no-mark (a ∷ b ∷ s) h = absurd (omega arith)
 abbrev pub isMark : List ℕ → ℕ → ℕ → Bool
 isMark s a b = eqb (getD s 0 0) a && eqb (getD s 1 0) b
 
--- where a mark is tried, and those behind it
+-- what is left to try, from a mark on
 
 abbrev pub fromStart : List ℕ → Step
 fromStart s = cond (isMark s 0x50 0x53) (whole startNotice 2) unknown

@@ -6,6 +6,7 @@ use journals::lines::put_last;
 use journals::prints::Printed;
 use journals::prints::print_next;
 use libc::STDOUT_FILENO;
+use rows::calls::programme_start;
 use rows::numbers::BLOCKS_LENGTH;
 use rows::numbers::RETAINED_LENGTH;
 use rows::numbers::START_LENGTH;
@@ -79,6 +80,7 @@ pub fn show(title: &[u8], journal: &[u8]) {
     let mut start = [0i16; START_LENGTH];
     let mut blocks = [0i16; BLOCKS_LENGTH];
     let mut timings = [0u16; TIMINGS_LENGTH];
+    programme_start(&mut retained);
     let mut place = Place {
         from: 0,
         records: 0,

@@ -1,5 +1,6 @@
 //! One payload after another through the Rust decoder, answered in the specification's numbers.
 
+use crate::call::Call;
 use crate::oamd::{OamdDecoder, OamdFrame, OamdParseError};
 use crate::orders::{self, Order};
 pub use crate::row::Row;
@@ -52,8 +53,11 @@ impl Oracle {
             .map_err(|error| refusal(&error, payload))
     }
 
-    pub fn reset(&mut self) {
-        self.decoder.reset();
+    /// The Rust has no doubt, so a gap is nothing to it.
+    pub fn call(&mut self, call: Call) {
+        if call != Call::Gap {
+            self.decoder.reset();
+        }
     }
 
     pub fn retained(&self) -> Vec<Row> {

@@ -52,8 +52,7 @@ fn answers(seed: u64, payloads: usize) -> (usize, BTreeMap<Pair, usize>) {
     let mut generator = Generator::new(seed, Options::default());
     for record in (0..payloads).flat_map(|_| generator.next_records()) {
         match record {
-            Record::Gap => {}
-            Record::Reset => oracle.reset(),
+            Record::Call(call) => oracle.call(call),
             Record::Payload(payload) => match oracle.decode(&payload) {
                 Ok(_) => accepted += 1,
                 Err(refusal) => {

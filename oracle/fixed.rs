@@ -3,6 +3,7 @@
 use crate::aim::{aims, Aim};
 use crate::answer::{Oracle, LONGEST_PAYLOAD};
 use crate::assignment::{Assignment, MOST_OBJECTS};
+use crate::call::Call;
 use crate::generator::{Generator, Options};
 use crate::journal::Record;
 use crate::payload::{Payload, Purpose};
@@ -10,6 +11,10 @@ use crate::random::Random;
 use crate::tables::MOST_BLOCKS;
 
 const DRAWN: usize = 500;
+
+const START: Record = Record::Call(Call::Start);
+const RESET: Record = Record::Call(Call::Reset);
+const GAP: Record = Record::Call(Call::Gap);
 
 /// The specification's payload A.
 const A: [u8; 6] = [0x01, 0x04, 0x48, 0x00, 0x06, 0x00];
@@ -31,7 +36,7 @@ const BENCH_CASES: [(&[u8], [u32; 3]); 11] = [
     (&[0x3f, 0x84], [3, 3, 2]),
 ];
 
-/// Each sequence begins with a reset.
+/// Each sequence begins with a programme start, or with a reset.
 pub fn sequences(seed: u64) -> Vec<Vec<Record>> {
     let mut random = Random::new(seed);
     let mut all = bench_cases();
@@ -42,7 +47,7 @@ pub fn sequences(seed: u64) -> Vec<Vec<Record>> {
     all
 }
 
-/// Alone, and after a gap notice and A, as in the journal of the specification.
+/// Alone; after a gap notice and A, as in the journal of the specification; and after a reset and A.
 fn bench_cases() -> Vec<Vec<Record>> {
     let mut all = Vec::new();
     for (payload, said) in BENCH_CASES {
@@ -57,21 +62,22 @@ fn bench_cases() -> Vec<Vec<Record>> {
         assert_eq!(found, said, "the oracle answers as the specification says");
         let case = Record::Payload(payload.to_vec());
         let a = Record::Payload(A.to_vec());
-        all.push(vec![Record::Reset, case.clone()]);
-        all.push(vec![Record::Reset, Record::Gap, a.clone(), case, a]);
+        all.push(vec![START, case.clone()]);
+        all.push(vec![START, GAP, a.clone(), case.clone(), a.clone()]);
+        all.push(vec![RESET, a.clone(), case, a]);
     }
     all
 }
 
-/// Each aimed payload between two valid ones of the same kinds, sometimes with a gap notice before it.
+/// Each aimed payload between two valid ones of the same kinds, sometimes with a notice before it.
 fn aimed(random: &mut Random) -> Vec<Vec<Record>> {
     let aims = aims();
     let sequence = |aim: &Aim| {
         let assignment = Assignment::random(random, 3);
         let valid = |random: &mut Random| drawn_payload(random, &assignment);
-        let mut records = vec![Record::Reset, valid(random)];
+        let mut records = vec![START, valid(random)];
         if random.flag() {
-            records.push(Record::Gap);
+            records.push(Record::Call(random.pick(&[Call::Gap, Call::Reset])));
         }
         records.push(Record::Payload(aim.payload(random)));
         records.push(valid(random));
@@ -85,10 +91,10 @@ fn drawn_payload(random: &mut Random, assignment: &Assignment) -> Record {
     Record::Payload(payload.assembled().into_bytes())
 }
 
-/// Sequences as the comparison has them, with gap notices; now and then a reset within.
+/// Sequences with gap notices and resets; now and then a further programme start within.
 fn drawn(random: &mut Random) -> Vec<Vec<Record>> {
     let options = Options {
-        gaps: true,
+        notices: true,
         short: true,
     };
     let mut generator = Generator::new(random.next(), options);
@@ -96,7 +102,7 @@ fn drawn(random: &mut Random) -> Vec<Vec<Record>> {
         let mut records = generator.next_sequence();
         if random.once_in(6) {
             let middle = 1 + random.index(records.len());
-            records.insert(middle, Record::Reset);
+            records.insert(middle, START);
         }
         records
     };
@@ -117,7 +123,7 @@ fn large(random: &mut Random) -> Vec<Vec<Record>> {
     };
     let sequence = |assignment: Assignment| {
         let mut payload = || large_payload(random, &assignment);
-        vec![Record::Reset, payload(), Record::Gap, payload()]
+        vec![START, payload(), GAP, payload()]
     };
     [most(false), most(true), mixed].map(sequence).into()
 }
@@ -145,7 +151,7 @@ fn lengths(random: &mut Random) -> Vec<Record> {
     let assignment = Assignment::random(random, 2);
     let valid = drawn_payload(random, &assignment);
     vec![
-        Record::Reset,
+        START,
         valid,
         padded(LONGEST_PAYLOAD + 1),
         padded(LONGEST_PAYLOAD),

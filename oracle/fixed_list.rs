@@ -1,6 +1,7 @@
 //! Writes the fixed list that the program `replay` runs; docs/notes/replay-list.md has its format.
 
 use oracle::aim::aims;
+use oracle::call::Call;
 use oracle::fixed::sequences;
 use oracle::journal::Record;
 use oracle::listener::{Expected, Listener};
@@ -9,8 +10,6 @@ use std::collections::BTreeSet;
 use std::io::{self, Write};
 
 const SEQUENCE: &[u8] = b"S";
-const RESET: &[u8] = b"R";
-const GAP: &[u8] = b"G";
 const PAYLOAD: &[u8] = b"P";
 const END: &[u8] = b"E";
 
@@ -21,13 +20,9 @@ pub fn write(seed: u64, out: &mut impl Write) -> io::Result<()> {
         out.write_all(SEQUENCE)?;
         for record in records {
             match record {
-                Record::Reset => {
-                    listener.reset();
-                    out.write_all(RESET)?;
-                }
-                Record::Gap => {
-                    listener.gap();
-                    out.write_all(GAP)?;
+                Record::Call(call) => {
+                    listener.call(call);
+                    out.write_all(mark(call))?;
                 }
                 Record::Payload(payload) => {
                     let expected = listener.decode(&payload);
@@ -48,6 +43,14 @@ pub fn write(seed: u64, out: &mut impl Write) -> io::Result<()> {
         )));
     }
     Ok(())
+}
+
+fn mark(call: Call) -> &'static [u8] {
+    match call {
+        Call::Start => b"B",
+        Call::Reset => b"R",
+        Call::Gap => b"G",
+    }
 }
 
 fn write_payload(

@@ -3,14 +3,15 @@
 use crate::aim::{aims, Aim};
 use crate::answer::LONGEST_PAYLOAD;
 use crate::assignment::{Assignment, MOST_OBJECTS};
+use crate::call::Call;
 use crate::journal::Record;
 use crate::payload::{Payload, Purpose};
 use crate::random::Random;
 
 #[derive(Clone, Copy, Default)]
 pub struct Options {
-    /// Gap notices are strewn in.
-    pub gaps: bool,
+    /// Gap notices are strewn in, and fewer resets.
+    pub notices: bool,
     /// At most 40 objects, and no payload padded to hundreds of bytes.
     pub short: bool,
 }
@@ -70,20 +71,21 @@ impl Generator {
         self.left == 0
     }
 
-    /// The next payload as a record, after a reset where a sequence begins, and perhaps a gap.
+    /// The next payload as a record, after a programme start where a sequence begins, and perhaps a notice.
     pub fn next_records(&mut self) -> Vec<Record> {
         let mut records = Vec::new();
         if self.starts_sequence() {
-            records.push(Record::Reset);
+            records.push(Record::Call(Call::Start));
         }
-        if self.options.gaps && self.random.once_in(5) {
-            records.push(Record::Gap);
+        if self.options.notices && self.random.once_in(4) {
+            let notices = [Call::Gap, Call::Gap, Call::Gap, Call::Reset];
+            records.push(Record::Call(self.random.pick(&notices)));
         }
         records.push(Record::Payload(self.next_payload()));
         records
     }
 
-    /// The records of a whole sequence, its reset first.
+    /// The records of a whole sequence, its programme start first.
     pub fn next_sequence(&mut self) -> Vec<Record> {
         let mut records = self.next_records();
         while !self.starts_sequence() {

@@ -1,14 +1,14 @@
 //! Journals: records, each behind its mark, and what the oracle says to each.
 
 use crate::answer::{Frame, Oracle, Row};
+use crate::call::Call;
 use std::fmt::Display;
 use std::io::{self, Write};
 
 #[derive(Clone, Debug, PartialEq, Eq)]
 pub enum Record {
     Payload(Vec<u8>),
-    Gap,
-    Reset,
+    Call(Call),
 }
 
 /// How a journal ends, with the offset of what could not be read.
@@ -42,8 +42,9 @@ pub fn records(journal: &[u8]) -> (Vec<Record>, Ending) {
 fn step(journal: &[u8], offset: usize) -> Step {
     match &journal[offset..] {
         [] => Step::Stopped(Ending::End),
-        [b'G', b'P', ..] => Step::Found(Record::Gap, offset + 2),
-        [b'R', b'S', ..] => Step::Found(Record::Reset, offset + 2),
+        [b'P', b'S', ..] => Step::Found(Record::Call(Call::Start), offset + 2),
+        [b'R', b'S', ..] => Step::Found(Record::Call(Call::Reset), offset + 2),
+        [b'G', b'P', ..] => Step::Found(Record::Call(Call::Gap), offset + 2),
         [b'P', b'L', high, low, rest @ ..] => {
             let length = usize::from(*high) * 256 + usize::from(*low);
             match rest.get(..length) {
@@ -61,8 +62,9 @@ fn step(journal: &[u8], offset: usize) -> Step {
 impl Record {
     pub fn write(&self, out: &mut impl Write) -> io::Result<()> {
         match self {
-            Record::Gap => out.write_all(b"GP"),
-            Record::Reset => out.write_all(b"RS"),
+            Record::Call(Call::Start) => out.write_all(b"PS"),
+            Record::Call(Call::Reset) => out.write_all(b"RS"),
+            Record::Call(Call::Gap) => out.write_all(b"GP"),
             Record::Payload(payload) => {
                 let length = u16::try_from(payload.len()).expect("a record's length has 16 bits");
                 out.write_all(b"PL")?;
@@ -79,18 +81,25 @@ pub fn print_answers(journal: &[u8], out: &mut impl Write) -> io::Result<()> {
     let mut oracle = Oracle::default();
     for record in &records {
         match record {
-            Record::Gap => writeln!(out, "gap")?,
-            Record::Reset => {
-                oracle.reset();
-                writeln!(out, "reset")?;
-            }
             Record::Payload(payload) => print_answer(&mut oracle, payload, out)?,
+            Record::Call(call) => {
+                oracle.call(*call);
+                writeln!(out, "{}", word(*call))?;
+            }
         }
     }
     match ending {
         Ending::End => writeln!(out, "end {}", records.len()),
         Ending::Torn(offset) => writeln!(out, "torn {offset}"),
         Ending::Mark(offset) => writeln!(out, "mark {offset}"),
+    }
+}
+
+fn word(call: Call) -> &'static str {
+    match call {
+        Call::Start => "start",
+        Call::Reset => "reset",
+        Call::Gap => "gap",
     }
 }
 
@@ -118,9 +127,9 @@ fn print_frame(frame: &Frame, retained: &[Row], out: &mut impl Write) -> io::Res
     print_line("kinds", &frame.kinds, out)?;
     print_line("timings", frame.timings.as_flattened(), out)?;
     for (name, rows) in [
-        ("start", &frame.start[..]),
-        ("block", &frame.blocks),
-        ("retained", retained),
+        ("start_row", &frame.start[..]),
+        ("block_row", &frame.blocks),
+        ("retained_row", retained),
     ] {
         for row in rows {
             print_line(name, row, out)?;

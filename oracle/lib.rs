@@ -11,6 +11,7 @@ mod oamd_noting;
 mod renderer_rules;
 
 pub mod answer;
+pub mod call;
 pub mod context;
 pub mod form;
 pub mod journal;

@@ -1,6 +1,7 @@
 //! The Rust decoder with the model of marks beside it: what the specification expects of each call.
 
 use crate::answer::{orders_of, Frame, Oracle, Refusal, Row};
+use crate::call::Call;
 use crate::form::rows_of;
 use crate::marks::{Marks, Mistake};
 use crate::orders::Order;
@@ -43,13 +44,9 @@ impl Listener {
         listener
     }
 
-    pub fn reset(&mut self) {
-        self.oracle.reset();
-        self.marks.reset();
-    }
-
-    pub fn gap(&mut self) {
-        self.marks.gap();
+    pub fn call(&mut self, call: Call) {
+        self.oracle.call(call);
+        self.marks.call(call);
     }
 
     pub fn doubts(&self) -> bool {
@@ -108,7 +105,7 @@ impl Listener {
         }
     }
 
-    /// The whole retained table, zeros behind the rows: as reset or the last acceptance left it.
+    /// The whole retained table, zeros behind the rows: as a programme start, a reset or the last acceptance left it.
     pub fn retained(&self) -> Vec<i16> {
         let rows = self.oracle.retained();
         let mut table = vec![0; RETAINED_LENGTH];

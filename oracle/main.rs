@@ -5,11 +5,12 @@
 //!     ok OBJECTS BLOCKS         a payload accepted, and then
 //!     kinds KIND ..             0 Lfe, 1 Bed, 2 Isf, 3 Dynamic
 //!     timings START RAMP ..     of each block
-//!     start NUMBER ..           a line for each start row
-//!     block NUMBER ..           a line for each row of block 0, then of block 1, and on
-//!     retained NUMBER ..        a line for each row that is kept
-//!     gap                       nothing is done: the Rust knows no gap
-//!     reset
+//!     start_row NUMBER ..       a line for each start row
+//!     block_row NUMBER ..       a line for each row of block 0, then of block 1, and on
+//!     retained_row NUMBER ..    a line for each row that is kept
+//!     start                     a programme start: the decoder begins anew
+//!     reset                     the same, since the Rust has no doubt
+//!     gap                       nothing is done, for the same reason
 //! and last `end RECORDS`, `torn OFFSET` or `mark OFFSET`. A row is the specification's row without
 //! its mark. A payload over 16,384 bytes is not decoded: `no 7 0 0`.
 //!
@@ -17,8 +18,9 @@
 //!     NUMBER FROM TO BITS       the timing test's number (0, 8, 9, 10), the rows chosen (0 the
 //!                               start row, b + 1 block b) and the f32 fraction, by its bits
 //!
-//! `generate SEED COUNT [gaps] [short]`: writes a journal with COUNT payloads in sequences, a reset
-//!     before each; gaps: with gap notices; short: at most 40 objects, and no very long payload.
+//! `generate SEED COUNT [notices] [short]`: writes a journal with COUNT payloads in sequences, a
+//!     programme start before each; notices: with gap notices and resets; short: at most 40 objects,
+//!     and no very long payload.
 //!
 //! `list SEED`: writes the fixed list that the program `replay` runs; it fails if a reachable pair of
 //!     number and context is not in it. docs/notes/replay-list.md has its format.
@@ -34,7 +36,7 @@ use std::process::ExitCode;
 mod count;
 mod fixed_list;
 
-const USAGE: &str = "usage: oracle journal | timing | generate SEED COUNT [gaps] [short] | \
+const USAGE: &str = "usage: oracle journal | timing | generate SEED COUNT [notices] [short] | \
     list SEED | count SEED COUNT";
 
 fn main() -> ExitCode {
@@ -95,12 +97,12 @@ fn answer_timings(out: &mut impl Write) -> io::Result<()> {
 fn generate(seed: &str, count: &str, options: &[&str], out: &mut impl Write) -> io::Result<()> {
     if options
         .iter()
-        .any(|option| !["gaps", "short"].contains(option))
+        .any(|option| !["notices", "short"].contains(option))
     {
         return Err(io::Error::other(USAGE));
     }
     let options = Options {
-        gaps: options.contains(&"gaps"),
+        notices: options.contains(&"notices"),
         short: options.contains(&"short"),
     };
     let mut generator = Generator::new(number(seed), options);

@@ -1,11 +1,14 @@
 //! The specification's "Marks and doubt" as a small model: the Rust decoder has no marks.
 
+use crate::call::Call;
 use crate::orders::{Order, Position};
 use crate::tables::DYNAMIC;
 
 /// A wrong reading of the specification, for the test that a comparison with this model can fail.
 #[derive(Clone, Copy, Debug, PartialEq, Eq)]
 pub enum Mistake {
+    StartLeavesDoubt,
+    ResetClearsDoubt,
     DoubtIgnored,
     DoubtKept,
     RefusalClearsDoubt,
@@ -20,7 +23,9 @@ pub enum Mistake {
     FirstBlockIsKept,
 }
 
-pub const MISTAKES: [Mistake; 12] = [
+pub const MISTAKES: [Mistake; 14] = [
+    Mistake::StartLeavesDoubt,
+    Mistake::ResetClearsDoubt,
     Mistake::DoubtIgnored,
     Mistake::DoubtKept,
     Mistake::RefusalClearsDoubt,
@@ -51,14 +56,16 @@ pub struct FrameMarks {
 }
 
 impl Marks {
-    pub fn reset(&mut self) {
-        self.doubt = false;
-        self.kinds.clear();
-        self.marks.clear();
-    }
-
-    pub fn gap(&mut self) {
-        self.doubt = true;
+    pub fn call(&mut self, call: Call) {
+        if call != Call::Gap {
+            self.kinds.clear();
+            self.marks.clear();
+        }
+        self.doubt = match call {
+            Call::Start => self.has(Mistake::StartLeavesDoubt),
+            Call::Reset => !self.has(Mistake::ResetClearsDoubt),
+            Call::Gap => true,
+        };
     }
 
     pub fn refuse(&mut self) {

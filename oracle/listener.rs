@@ -18,6 +18,16 @@ pub struct Said {
     pub unsettled: u32,
 }
 
+impl Said {
+    /// A number with nothing beside it.
+    pub fn only(number: u32) -> Self {
+        Said {
+            number,
+            ..Said::default()
+        }
+    }
+}
+
 /// What one payload is to give. The rows are those of the tables, number by number; a refusal has none.
 #[derive(Clone, Default)]
 pub struct Expected {

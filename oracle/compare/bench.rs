@@ -3,6 +3,7 @@
 use crate::difference::{self, Difference};
 use crate::proved::{Tables, NEEDED, RETAINED};
 use crate::spoil::{Moment, Spoil};
+use oracle::call::Call;
 use oracle::listener::{Expected, Listener, Said};
 use oracle::tables::{DOUBT, RETAINED_LENGTH};
 
@@ -33,28 +34,16 @@ impl Bench {
         self.expected.copy_from(&self.found);
     }
 
-    pub fn reset(&mut self) -> Result<(), Difference> {
-        self.listener.reset();
+    pub fn call(&mut self, call: Call) -> Result<(), Difference> {
+        self.listener.call(call);
         self.prepare();
-        self.expected.retained[..RETAINED_LENGTH].fill(0);
-        let number = self.found.reset_lent(self.found.retained.len());
-        self.compare_number(Moment::Reset, number)
-    }
-
-    pub fn gap(&mut self) -> Result<(), Difference> {
-        self.listener.gap();
-        self.prepare();
-        self.expected.retained[DOUBT] = 1;
-        let number = self.found.gap_lent(self.found.retained.len());
-        self.compare_number(Moment::Gap, number)
-    }
-
-    fn compare_number(&mut self, moment: Moment, number: u32) -> Result<(), Difference> {
-        let said = Said {
-            number,
-            ..Said::default()
-        };
-        self.compare(moment, Said::default(), said)
+        let retained = &mut self.expected.retained[..RETAINED_LENGTH];
+        if call != Call::Gap {
+            retained.fill(0);
+        }
+        retained[DOUBT] = i16::from(call != Call::Start);
+        let number = self.found.call_lent(call, self.found.retained.len());
+        self.compare(Moment::Called(call), Said::default(), Said::only(number))
     }
 
     pub fn decode(&mut self, payload: &[u8]) -> Result<Expected, Difference> {

@@ -1,6 +1,6 @@
 //! Shows that the comparison can fail: wrong numbers, one of each sort, and wrong models of the marks.
 
-use crate::heard_all::Wrong;
+use crate::heard_all::{Breach, Wrong, BREACHES};
 use crate::run::Run;
 use crate::spoil::{spoils, Spoil};
 use oracle::listener::Listener;
@@ -24,6 +24,10 @@ pub fn falsify(seed: u64) -> bool {
         .iter()
         .map(|mistake| wrong_model(seed, *mistake))
         .collect();
+    let breaches: Vec<bool> = BREACHES
+        .iter()
+        .map(|breach| breached(seed, *breach))
+        .collect();
     report_views(seed)
         & report("wrong numbers", &spoils, &numbers)
         & report(
@@ -31,6 +35,7 @@ pub fn falsify(seed: u64) -> bool {
             &wrongs,
             &heard,
         )
+        & report("events that break the demand", &BREACHES, &breaches)
         & report("wrong models", &MISTAKES, &models)
 }
 
@@ -94,7 +99,16 @@ fn wrongly_heard(seed: u64, wrong: Wrong) -> bool {
     false
 }
 
+fn breached(seed: u64, breach: Breach) -> bool {
+    let mut run = Run::new(seed, Listener::default());
+    run.all.breach = Some(breach);
+    finds_a_difference(run)
+}
+
 fn wrong_model(seed: u64, mistake: Mistake) -> bool {
-    let mut run = Run::new(seed, Listener::mistaken(mistake));
+    finds_a_difference(Run::new(seed, Listener::mistaken(mistake)))
+}
+
+fn finds_a_difference(mut run: Run) -> bool {
     (0..SEQUENCES).any(|_| run.sequence().is_err())
 }

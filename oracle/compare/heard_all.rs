@@ -1,11 +1,14 @@
 //! A Rust decoder that heard every payload, beside a proved one that missed some and was told so.
 //!
-//! What must agree: refusals, kinds, timings; in block rows activity, gain and priority; in start
-//! rows the same, unless doubt stood; and the picture wherever the proved decoder calls it settled.
+//! What must agree, unless the proved one went astray: refusals, kinds, timings; in block rows activity,
+//! gain and priority; in start rows the same, unless doubt stood, by a gap notice or a reset; and the
+//! picture wherever the proved decoder calls it settled.
 
 use crate::difference::{number, Difference};
+use crate::events::{Event, Following};
 use crate::proved::Tables;
 use oracle::answer::{Frame, Oracle, Row};
+use oracle::call::Call;
 use oracle::listener::Said;
 use oracle::tables::{ACTIVE, COLUMNS, MARK, ROW_WIDTH, X};
 use std::ops::Range;
@@ -18,9 +21,23 @@ const PICTURE: Range<usize> = X..MARK;
 #[derive(Default)]
 pub struct HeardAll {
     oracle: Oracle,
+    /// How the proved decoder follows.
+    pub following: Following,
     /// A number to be heard wrongly, once.
     pub spoil: Option<Wrong>,
+    pub breach: Option<Breach>,
 }
+
+/// What demand 3 does not allow, and must show.
+#[derive(Clone, Copy, Debug, PartialEq, Eq)]
+pub enum Breach {
+    /// A programme start goes to the proved decoder alone.
+    StartToOne,
+    /// What the proved decoder hears astray is compared.
+    AstrayCompared,
+}
+
+pub const BREACHES: [Breach; 2] = [Breach::StartToOne, Breach::AstrayCompared];
 
 /// Which number of an accepted frame is heard wrongly.
 #[derive(Clone, Copy, Debug, PartialEq, Eq)]
@@ -35,8 +52,19 @@ pub enum Wrong {
 }
 
 impl HeardAll {
-    pub fn reset(&mut self) {
-        self.oracle.reset();
+    pub fn call(&mut self, call: Call) {
+        if call != Call::Start || self.breach != Some(Breach::StartToOne) {
+            self.oracle.call(call);
+        }
+    }
+
+    pub fn follow(&mut self, event: Event) {
+        self.following = self.following.after(event);
+    }
+
+    /// Whether the proved decoder cannot know that it missed something.
+    pub fn cannot_agree(&self) -> bool {
+        self.following == Following::Astray && self.breach != Some(Breach::AstrayCompared)
     }
 
     /// A payload that the proved decoder did not get.

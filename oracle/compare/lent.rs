@@ -3,15 +3,17 @@
 use crate::bench::Bench;
 use crate::difference::Difference;
 use crate::proved::{NEEDED, RETAINED, TABLES};
+use crate::seen::Seen;
 use crate::spoil::Moment;
 use oracle::answer::LONGEST_PAYLOAD;
+use oracle::call::{Call, CALLS};
 use oracle::form::{edges, in_form};
 use oracle::listener::Said;
 use oracle::random::Random;
 use oracle::tables::{COUNT, RETAINED_HEAD, ROW_WIDTH};
 
-const ROOM: u32 = 5;
-const FORM: u32 = 6;
+pub const ROOM: u32 = 5;
+pub const FORM: u32 = 6;
 const SIZE: u32 = 7;
 
 /// How the lent tables and the payload are spoiled for one call.
@@ -41,28 +43,36 @@ impl Trial {
             _ => SIZE,
         }
     }
+
+    /// Programme start and reset ask for room alone, and gap for the form too.
+    fn is_for(self, call: Call) -> bool {
+        self.short || self.out_of_form && call == Call::Gap
+    }
 }
 
-/// One such call; what is retained is afterwards as before. Answers the number, or none if nothing was tried.
+/// One such try of each call; what is retained is afterwards as before.
 pub fn try_one(
     bench: &mut Bench,
     payload: &[u8],
     random: &mut Random,
-) -> Result<Option<u32>, Difference> {
+    seen: &mut Seen,
+) -> Result<(), Difference> {
     let mut trial = Trial::random(random);
     let before = bench.found.retained.clone();
     if trial.out_of_form {
         spoil_form(&mut bench.found.retained, random);
         trial.out_of_form = !in_form(&bench.found.retained);
     }
-    let tried = trial.short || trial.out_of_form || trial.too_long;
-    if tried {
+    if trial.short || trial.out_of_form || trial.too_long {
+        seen.refused(None, trial.number());
         refused_decode(bench, payload, trial, random)?;
-        refused_gap(bench, trial)?;
-        refused_reset(bench, trial)?;
+    }
+    for call in CALLS.into_iter().filter(|call| trial.is_for(*call)) {
+        seen.refused(Some(call), trial.number());
+        refused_call(bench, call, trial)?;
     }
     bench.found.retained.copy_from_slice(&before);
-    Ok(tried.then(|| trial.number()))
+    Ok(())
 }
 
 fn refused_decode(
@@ -82,41 +92,18 @@ fn refused_decode(
     }
     bench.prepare();
     let found = bench.found.decode_lent(&payload, lent);
-    bench.compare(Moment::Untouched, only(trial.number()), found)
+    bench.compare(Moment::Untouched, Said::only(trial.number()), found)
 }
 
-fn refused_gap(bench: &mut Bench, trial: Trial) -> Result<(), Difference> {
-    if !trial.short && !trial.out_of_form {
-        return Ok(());
-    }
-    bench.prepare();
-    let found = bench.found.gap_lent(retained_lent(bench, trial));
-    bench.compare(Moment::Untouched, only(trial.number()), only(found))
-}
-
-/// Reset asks for room alone.
-fn refused_reset(bench: &mut Bench, trial: Trial) -> Result<(), Difference> {
-    if !trial.short {
-        return Ok(());
-    }
-    bench.prepare();
-    let found = bench.found.reset_lent(retained_lent(bench, trial));
-    bench.compare(Moment::Untouched, only(ROOM), only(found))
-}
-
-fn retained_lent(bench: &Bench, trial: Trial) -> usize {
-    if trial.short {
+fn refused_call(bench: &mut Bench, call: Call, trial: Trial) -> Result<(), Difference> {
+    let lent = if trial.short {
         NEEDED[RETAINED] - 1
     } else {
         bench.found.retained.len()
-    }
-}
-
-fn only(number: u32) -> Said {
-    Said {
-        number,
-        ..Said::default()
-    }
+    };
+    bench.prepare();
+    let found = Said::only(bench.found.call_lent(call, lent));
+    bench.compare(Moment::Declined(call), Said::only(trial.number()), found)
 }
 
 /// One number that is looked at becomes another: near the edges of its range, or any.

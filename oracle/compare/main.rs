@@ -11,11 +11,13 @@ use std::process::ExitCode;
 
 mod bench;
 mod difference;
+mod events;
 mod falsify;
 mod heard_all;
 mod lent;
 mod proved;
 mod run;
+mod seen;
 mod spoil;
 mod tally;
 #[cfg(views)]

@@ -1,5 +1,6 @@
 //! The proved decoder behind its C names, on tables that are longer than it needs.
 
+use oracle::call::Call;
 use oracle::listener::Said;
 use oracle::tables::{BLOCKS_LENGTH, RETAINED_LENGTH, START_LENGTH, TIMINGS_LENGTH};
 
@@ -17,6 +18,7 @@ extern "C" {
         timings_len: usize,
         answer: *mut u32,
     ) -> u32;
+    fn oamd_start(retained: *mut i16, retained_len: usize) -> u32;
     fn oamd_reset(retained: *mut i16, retained_len: usize) -> u32;
     fn oamd_gap(retained: *mut i16, retained_len: usize) -> u32;
 }
@@ -111,13 +113,14 @@ impl Tables {
         }
     }
 
-    pub fn reset_lent(&mut self, lent: usize) -> u32 {
+    /// Lends so much of the retained table.
+    pub fn call_lent(&mut self, call: Call, lent: usize) -> u32 {
         assert!(lent <= self.retained.len());
-        unsafe { oamd_reset(self.retained.as_mut_ptr(), lent) }
-    }
-
-    pub fn gap_lent(&mut self, lent: usize) -> u32 {
-        assert!(lent <= self.retained.len());
-        unsafe { oamd_gap(self.retained.as_mut_ptr(), lent) }
+        let function = match call {
+            Call::Start => oamd_start,
+            Call::Reset => oamd_reset,
+            Call::Gap => oamd_gap,
+        };
+        unsafe { function(self.retained.as_mut_ptr(), lent) }
     }
 }

@@ -1,26 +1,32 @@
-//! Sequences of payloads, gaps and resets, given to both decoders.
+//! Sequences of payloads and of calls on the retained table, given to both decoders.
 
 use crate::bench::Bench;
 use crate::difference::Difference;
+use crate::events::{drawn, Event};
 use crate::heard_all::HeardAll;
 use crate::lent;
+use crate::seen;
 use crate::tally::Tally;
 use oracle::answer::Oracle;
+use oracle::call::Call;
 use oracle::form::random_table;
 use oracle::generator::{Generator, Options};
 use oracle::journal::Record;
-use oracle::listener::Listener;
+use oracle::listener::{Expected, Listener};
 use oracle::random::Random;
 use oracle::tables::{DOUBT, RETAINED_LENGTH};
 
-/// Where gap notices come in a sequence.
+/// What a sequence has besides payloads.
 #[derive(Clone, Copy, PartialEq, Eq)]
-enum Gaps {
-    None,
-    Beside,
-    /// The payload goes to a decoder that hears all, and to no other.
-    InPlaceOfPayloads,
+enum Sort {
+    Undisturbed,
+    /// Gap notices, resets and programme starts between payloads.
+    Disturbed,
+    /// The events of demand 3, beside a decoder that hears all.
+    BesideAll,
 }
+
+const SORTS: [Sort; 3] = [Sort::Undisturbed, Sort::Disturbed, Sort::BesideAll];
 
 pub struct Run {
     pub bench: Bench,
@@ -28,9 +34,9 @@ pub struct Run {
     pub tally: Tally,
     generator: Generator,
     random: Random,
-    gaps: Gaps,
-    /// Whether the next sequence has to begin with a reset.
-    must_reset: bool,
+    sort: Sort,
+    /// Whether the last sequence ended with a difference, so that its table is of no use.
+    out_of_step: bool,
 }
 
 impl Run {
@@ -41,8 +47,8 @@ impl Run {
             tally: Tally::default(),
             generator: Generator::new(seed, Options::default()),
             random: Random::new(!seed),
-            gaps: Gaps::None,
-            must_reset: true,
+            sort: Sort::Undisturbed,
+            out_of_step: false,
         }
     }
 
@@ -54,13 +60,7 @@ impl Run {
             _ => None,
         });
         let payloads: Vec<Vec<u8>> = payloads.collect();
-        let choices = [
-            Gaps::None,
-            Gaps::None,
-            Gaps::Beside,
-            Gaps::InPlaceOfPayloads,
-        ];
-        self.gaps = self.random.pick(&choices);
+        self.sort = self.random.pick(&SORTS);
         let mut done = self
             .begin(&payloads)
             .map_err(|difference| (difference, Vec::new()));
@@ -70,35 +70,46 @@ impl Run {
                 said.map_err(|difference| (difference, payload.clone()))
             });
         }
-        self.must_reset = self.gaps == Gaps::InPlaceOfPayloads || done.is_err();
+        self.out_of_step = done.is_err();
         self.tally.differences += u64::from(done.is_err());
         done
     }
 
-    /// Mostly a reset; else what the sequence before left, or any table in form.
+    /// Mostly a programme start, sometimes a reset; else the table that was left, zeros, or any in form.
     fn begin(&mut self, payloads: &[Vec<u8>]) -> Result<(), Difference> {
-        let must = self.must_reset || self.gaps == Gaps::InPlaceOfPayloads;
-        match self.random.below(8) {
-            0 if !must => Ok(()),
-            1 if !must => {
-                self.plant(payloads);
-                Ok(())
+        match self.random.below(16) {
+            _ if self.sort == Sort::BesideAll => {
+                self.all.follow(Event::Starts);
+                self.renew(Call::Start, seen::START)
             }
+            0 | 1 if !self.out_of_step => self.go_on(seen::LEFT),
             2 => {
-                // A reset looks at nothing.
-                let any = (0..RETAINED_LENGTH).map(|_| self.random.next() as i16);
-                let any: Vec<i16> = any.collect();
-                self.bench.found.retained[..RETAINED_LENGTH].copy_from_slice(&any);
-                self.reset()
+                self.bench.plant(&[0; RETAINED_LENGTH]);
+                self.go_on(seen::ZEROS)
             }
-            _ => self.reset(),
+            3 | 4 => {
+                self.plant(payloads);
+                self.go_on(seen::PLANTED)
+            }
+            5..=7 => self.renew(Call::Reset, seen::RESET),
+            _ => self.renew(Call::Start, seen::START),
         }
     }
 
-    fn reset(&mut self) -> Result<(), Difference> {
-        self.tally.resets += 1;
-        self.all.reset();
-        self.bench.reset()
+    fn go_on(&mut self, head: &'static str) -> Result<(), Difference> {
+        self.tally.seen.begin(head);
+        Ok(())
+    }
+
+    /// A programme start and a reset look at no number.
+    fn renew(&mut self, call: Call, head: &'static str) -> Result<(), Difference> {
+        self.tally.seen.begin(head);
+        if self.random.once_in(4) {
+            self.tally.seen.count(seen::ANY_NUMBERS);
+            let retained = self.bench.found.retained[..RETAINED_LENGTH].iter_mut();
+            retained.for_each(|number| *number = self.random.next() as i16);
+        }
+        self.call_both(call)
     }
 
     /// Mostly with the kinds of the first payload that has any, since only then do the rows matter.
@@ -113,37 +124,72 @@ impl Run {
                 let count = self.random.below(6);
                 (0..count).map(|_| self.random.below(4) as i16).collect()
             });
-        self.tally.planted += 1;
         self.bench.plant(&random_table(&mut self.random, &kinds));
     }
 
     fn payload(&mut self, payload: &[u8]) -> Result<(), Difference> {
-        if self.gaps == Gaps::Beside && self.random.once_in(4) {
-            self.gap()?;
-        }
-        if self.gaps == Gaps::InPlaceOfPayloads && self.random.once_in(3) {
-            self.all.hear(payload);
-            self.tally.missed += 1;
-            return self.gap();
-        }
-        let doubted = self.bench.found.retained[DOUBT] == 1;
-        let expected = self.bench.decode(payload)?;
-        self.tally.count(&expected);
-        if self.gaps == Gaps::InPlaceOfPayloads {
-            self.tally.compared_with_all += u64::from(expected.said.number == 0);
-            self.all
-                .compare(payload, &expected.said, &self.bench.found, doubted)?;
+        if self.sort == Sort::BesideAll {
+            for event in drawn(&mut self.random, self.all.following) {
+                self.event(event, payload)?;
+            }
+        } else {
+            if self.sort == Sort::Disturbed && self.random.once_in(4) {
+                self.call_between()?;
+            }
+            self.decode(payload)?;
         }
         if self.random.once_in(16) {
-            if let Some(number) = lent::try_one(&mut self.bench, payload, &mut self.random)? {
-                *self.tally.lent.entry(number).or_default() += 1;
-            }
+            let seen = &mut self.tally.seen;
+            lent::try_one(&mut self.bench, payload, &mut self.random, seen)?;
         }
         Ok(())
     }
 
-    fn gap(&mut self) -> Result<(), Difference> {
-        self.tally.gaps += 1;
-        self.bench.gap()
+    fn call_between(&mut self) -> Result<(), Difference> {
+        let calls = [Call::Gap, Call::Gap, Call::Reset, Call::Reset, Call::Start];
+        let call = self.random.pick(&calls);
+        self.tally.seen.call(call);
+        self.bench.call(call)
+    }
+
+    fn decode(&mut self, payload: &[u8]) -> Result<Expected, Difference> {
+        let expected = self.bench.decode(payload)?;
+        self.tally.count(&expected);
+        Ok(expected)
+    }
+
+    fn event(&mut self, event: Event, payload: &[u8]) -> Result<(), Difference> {
+        self.tally.seen.event(event, self.all.following);
+        match event {
+            Event::Starts => self.call_both(Call::Start)?,
+            Event::Heard => self.heard(payload)?,
+            Event::Missed => self.all.hear(payload),
+            Event::Warns(call) => self.bench.call(call)?,
+            Event::WarnsBoth(call) => self.call_both(call)?,
+        }
+        self.all.follow(event);
+        Ok(())
+    }
+
+    fn call_both(&mut self, call: Call) -> Result<(), Difference> {
+        self.all.call(call);
+        self.bench.call(call)
+    }
+
+    fn heard(&mut self, payload: &[u8]) -> Result<(), Difference> {
+        let doubted = self.bench.found.retained[DOUBT] == 1;
+        let said = self.decode(payload)?.said;
+        if self.all.cannot_agree() {
+            self.all.hear(payload);
+            return Ok(());
+        }
+        let accepted = said.number == 0;
+        let sort = if accepted {
+            seen::FRAMES
+        } else {
+            seen::REFUSALS
+        };
+        self.tally.seen.count(sort);
+        self.all.compare(payload, &said, &self.bench.found, doubted)
     }
 }

@@ -1,6 +1,7 @@
 //! Numbers to be expected wrongly, one of each sort: a comparison that misses one of them is blind there.
 
 use crate::proved::{Tables, NEEDED};
+use oracle::call::{Call, CALLS};
 use oracle::listener::Said;
 use oracle::tables::{RETAINED_HEAD, ROW_WIDTH};
 
@@ -8,10 +9,12 @@ use oracle::tables::{RETAINED_HEAD, ROW_WIDTH};
 pub enum Moment {
     Accepted,
     Refused,
-    /// Refused by 5, 6 or 7, which leave every table as it was.
+    /// Decode, refused by 5, 6 or 7, which leave every table as it was.
     Untouched,
-    Gap,
-    Reset,
+    /// A call on the retained table alone.
+    Called(Call),
+    /// The same, refused by 5 or 6.
+    Declined(Call),
 }
 
 #[derive(Clone, Copy, Debug, PartialEq, Eq)]
@@ -39,13 +42,10 @@ const ANSWERS: usize = 6;
 
 /// One spoil of each sort.
 pub fn spoils() -> Vec<Spoil> {
-    let moments = [
-        Moment::Accepted,
-        Moment::Refused,
-        Moment::Untouched,
-        Moment::Gap,
-        Moment::Reset,
-    ];
+    let decoded = [Moment::Accepted, Moment::Refused, Moment::Untouched];
+    let called = CALLS.map(Moment::Called).into_iter();
+    let declined = CALLS.map(Moment::Declined);
+    let moments = decoded.into_iter().chain(called).chain(declined);
     let mut all = Vec::new();
     for moment in moments {
         let places = places(moment);
@@ -60,7 +60,7 @@ pub fn spoils() -> Vec<Spoil> {
 
 fn places(moment: Moment) -> Vec<Place> {
     let answers = match moment {
-        Moment::Gap | Moment::Reset => 1,
+        Moment::Called(_) | Moment::Declined(_) => 1,
         _ => ANSWERS,
     };
     let mut places: Vec<Place> = (0..answers).map(Place::Answer).collect();

@@ -1,5 +1,6 @@
 //! What was seen, printed at the end; and whether that was enough.
 
+use crate::seen::Seen;
 use oracle::aim::aims;
 use oracle::context;
 use oracle::listener::Expected;
@@ -26,12 +27,7 @@ pub struct Tally {
     unsettled_block_rows: u64,
     unsettled_frames: u64,
     kinds_changed: u64,
-    pub gaps: u64,
-    pub missed: u64,
-    pub resets: u64,
-    pub planted: u64,
-    pub lent: BTreeMap<u32, u64>,
-    pub compared_with_all: u64,
+    pub seen: Seen,
     pub differences: u64,
 }
 
@@ -106,18 +102,8 @@ impl Tally {
             self.unsettled_block_rows,
             self.unsettled_frames
         );
-        println!(
-            "kinds changed {}, gaps {}, payloads missed {}, resets {}, planted tables {}",
-            self.kinds_changed, self.gaps, self.missed, self.resets, self.planted
-        );
-        println!(
-            "frames compared with a decoder that heard all: {}",
-            self.compared_with_all
-        );
-        println!(
-            "further calls by refusal (5 Room, 6 Form, 7 Size): {:?}",
-            self.lent
-        );
+        println!("kinds changed {}", self.kinds_changed);
+        self.seen.print();
         println!("differences {}", self.differences);
     }
 
@@ -139,6 +125,8 @@ impl Tally {
         if !unseen.is_empty() {
             complaints.push(format!("refusals never seen (number, context): {unseen:?}"));
         }
+        let unseen = self.seen.unseen().into_iter();
+        complaints.extend(unseen.map(|name| format!("never seen: {name}")));
         complaints
     }
 }

@@ -1,0 +1,66 @@
+//! Demand 3's events: what two decoders get of one programme, of which the second misses payloads.
+//! The names are those of `Events` in the definitions.
+
+use oracle::call::Call;
+use oracle::random::Random;
+
+#[derive(Clone, Copy, Debug, PartialEq, Eq)]
+pub enum Event {
+    /// A programme start, to both.
+    Starts,
+    /// A payload, to both.
+    Heard,
+    /// A payload, to the first alone.
+    Missed,
+    /// A gap notice or a reset, to the second alone.
+    Warns(Call),
+    WarnsBoth(Call),
+}
+
+/// Whether the second can know that it missed something.
+#[derive(Clone, Copy, Debug, Default, PartialEq, Eq)]
+pub enum Following {
+    /// It missed nothing that it was not warned of.
+    #[default]
+    Abreast,
+    /// It got a notice, and no payload since.
+    Warned,
+    /// It missed a payload, and got no notice since the last one that it heard.
+    Astray,
+}
+
+impl Following {
+    pub fn after(self, event: Event) -> Following {
+        match (self, event) {
+            (_, Event::Starts) => Following::Abreast,
+            (_, Event::Warns(_) | Event::WarnsBoth(_)) => Following::Warned,
+            (Following::Warned, Event::Heard) => Following::Abreast,
+            (Following::Abreast, Event::Missed) => Following::Astray,
+            _ => self,
+        }
+    }
+}
+
+/// Up to the next payload, which comes last. Mostly a notice that is owed is given before both hear one.
+pub fn drawn(random: &mut Random, following: Following) -> Vec<Event> {
+    let payload = if random.once_in(3) {
+        Event::Missed
+    } else {
+        Event::Heard
+    };
+    let owed = following == Following::Astray && payload == Event::Heard;
+    let mut events = Vec::new();
+    if owed && !random.once_in(8) {
+        events.push(drawn_notice(random));
+    } else if random.once_in(5) {
+        let notice = drawn_notice(random);
+        events.push(random.pick(&[notice, notice, notice, Event::Starts]));
+    }
+    events.push(payload);
+    events
+}
+
+fn drawn_notice(random: &mut Random) -> Event {
+    let call = random.pick(&[Call::Gap, Call::Reset]);
+    random.pick(&[Event::Warns(call), Event::WarnsBoth(call)])
+}

@@ -4,6 +4,9 @@
 use oracle::call::Call;
 use oracle::random::Random;
 
+/// A reset counts as a gap.
+const NOTICES: [Call; 2] = [Call::Gap, Call::Reset];
+
 #[derive(Clone, Copy, Debug, PartialEq, Eq)]
 pub enum Event {
     /// A programme start, to both.
@@ -41,9 +44,14 @@ impl Following {
     }
 }
 
-/// Up to the next payload, which comes last. Mostly a notice that is owed is given before both hear one.
+/// What comes with the next payload. Mostly a notice that is owed is given before both hear one.
 pub fn drawn(random: &mut Random, following: Following) -> Vec<Event> {
-    let payload = if random.once_in(3) {
+    let turns = if following == Following::Abreast {
+        3
+    } else {
+        2
+    };
+    let payload = if random.once_in(turns) {
         Event::Missed
     } else {
         Event::Heard
@@ -57,10 +65,14 @@ pub fn drawn(random: &mut Random, following: Following) -> Vec<Event> {
         events.push(random.pick(&[notice, notice, notice, Event::Starts]));
     }
     events.push(payload);
+    if payload == Event::Missed && random.once_in(3) {
+        // In place of the payload.
+        events.push(Event::Warns(random.pick(&NOTICES)));
+    }
     events
 }
 
 fn drawn_notice(random: &mut Random) -> Event {
-    let call = random.pick(&[Call::Gap, Call::Reset]);
+    let call = random.pick(&NOTICES);
     random.pick(&[Event::Warns(call), Event::WarnsBoth(call)])
 }

@@ -45,17 +45,19 @@ const ONE_BEHIND: &str = "one payload missed, one notice behind it";
 const BEFORE: &str = "several missed, one notice before them";
 const BETWEEN: &str = "several missed, one notice between them";
 const BEHIND: &str = "several missed, one notice behind them";
-const NOTICES: &str = "one or more missed, several notices";
+const IN_PLACE: &str = "several missed, a notice to it alone in place of each";
+const NOTICES: &str = "one or more missed, several notices otherwise";
 const NO_NOTICE: &str = "one or more missed, no notice";
 const STARTED: &str = "one or more missed, then a programme start";
 const RESET_ALONE: &str = "none missed, one reset to it alone";
 const GAP_ALONE: &str = "none missed, one gap notice to it alone";
-const STRETCHES: [&str; 10] = [
+const STRETCHES: [&str; 11] = [
     ONE_BEFORE,
     ONE_BEHIND,
     BEFORE,
     BETWEEN,
     BEHIND,
+    IN_PLACE,
     NOTICES,
     NO_NOTICE,
     STARTED,
@@ -214,7 +216,14 @@ impl Stretch {
             (_, [(0, _)]) => Some(BEFORE),
             (missed, [(at, _)]) if *at == missed => Some(BEHIND),
             (_, [_]) => Some(BETWEEN),
+            _ if self.is_in_place() => Some(IN_PLACE),
             _ => Some(NOTICES),
         }
+    }
+
+    fn is_in_place(&self) -> bool {
+        let alone = |event: &Event| matches!(event, Event::Warns(_));
+        let places = self.notices.iter().map(|(at, _)| *at);
+        places.eq(1..=self.missed) && self.notices.iter().all(|(_, event)| alone(event))
     }
 }

@@ -1,6 +1,7 @@
 """Sequences of payloads with the oracle's answers, and theorems that the definitions say the same.
 
-A record is a dictionary: its sort (ok, no or gap), its payload, and lists of the oracle's numbers.
+A record is a dictionary: its sort (ok, no, start, reset or gap), its payload, the rows retained before it,
+and lists of the oracle's numbers.
 """
 
 from named_numbers import named_numbers
@@ -9,16 +10,19 @@ from oracle_program import ask
 # The numbers of a row before its mark.
 COMPARED = named_numbers("rows")["MARK"]
 # The oracle's lines after an `ok` whose numbers are compared.
-NUMBERS_OF_OK = ["timings", "start", "block", "retained"]
+ROWS = ["start_row", "block_row", "retained_row"]
+NUMBERS_OF_OK = ["timings", *ROWS]
+# The call that each record without a payload stands for, by its name in the definitions.
+CALLS = {"start": "programmeStart", "reset": "reset", "gap": "gap"}
 
 AGREEMENT = """-- Whether the definitions say to payloads what the oracle said.
 use Prim.Native.Nat.{ℕ, zero, suc, _*_}
 use mathlib.Core.Bool.{Bool, true, _&&_}
 use mathlib.Core.List.{List, [], _∷_, _++_}
 use lib.IntN.{ℤ, pos}
-use lib.ListN.{take, drop, getD}
-use Rattle.standard.specs.Numbers.{rowWidth, retainedHead, markAt}
-use Rattle.standard.specs.Calls.{Lent, Done, decode, gap}
+use lib.ListN.{take, drop, getD, replicate}
+use Rattle.standard.specs.Numbers.{rowWidth, retainedHead, retainedLength, markAt}
+use Rattle.standard.specs.Calls.{Lent, Done, Kept, decode}
 use Rattle.standard.specs.Journal.{freshTables}
 use Rattle.standard.specs.Computed.{computed}
 use Rattle.standard.specs.Rows.{eqℤ}
@@ -37,8 +41,9 @@ pub data Verdict : Type 0 where
   accepts : Frame → Verdict
 
 pub data Said : Type 0 where
-  notices : Said  -- a gap
-  says : List ℕ → Verdict → ℕ → List ℤ → Said  -- a payload; then how many rows are retained, and which
+  -- with how many rows are retained afterwards, and which: a call on the retained table alone, or a payload
+  calls : (List ℤ → Kept) → ℕ → List ℤ → Said
+  says : List ℕ → Verdict → ℕ → List ℤ → Said
 
 -- the first n rows of a table; a mark stands last in its row
 unfoldable pub unmarked : ℕ → List ℤ → List ℤ
@@ -67,10 +72,16 @@ lend l =
 
 unfoldable pub agrees : List ℤ → List Said → Bool
 agrees l [] = true
-agrees l (notices ∷ rest) = agrees (gap l .retained) rest
+agrees l (calls call n rows ∷ rest) =
+    let r = call l .retained in
+    retains n rows r && agrees r rest
 agrees l (says s v n rows ∷ rest) =
     let d = decode s (lend l) in
     isVerdict v d && retains n rows (d .lent .retained) && agrees (d .lent .retained) rest
+
+-- a programme start, with which each sequence begins, looks at no number
+abbrev pub anyNumbers : List ℤ
+anyNumbers = replicate retainedLength (pos 7)
 
 unfoldable pub opened : Unit {0}
 unfolding computed same sameℤ answerNumbers unmarked numbersOf isVerdict retains agrees
@@ -81,13 +92,13 @@ HEAD = """-- Sequences of payloads, and what the oracle said to each.
 use mathlib.Core.List.{[], _∷_}
 use lib.Dec.{T}
 use lib.IntN.{pos, negsuc}
-use Rattle.standard.specs.Journal.{freshTables}
-use Rattle.compared.specs.Agreement.{Frame, refuses, accepts, notices, says, agrees, opened}
+use Rattle.standard.specs.Calls.{programmeStart, reset, gap}
+use Rattle.compared.specs.Agreement.{Frame, refuses, accepts, calls, says, agrees, anyNumbers, opened}
 """
 
 
 def payloads_of(journal):
-    """The payload of each record; None for a gap or a reset."""
+    """The payload of each record; None for a call on the retained table alone."""
     at = 0
     while at < len(journal):
         if journal[at : at + 2] != b"PL":
@@ -105,7 +116,7 @@ def answers_of(text):
     for line in text.splitlines():
         word, *rest = line.split()
         numbers = [int(number) for number in rest]
-        if word in ("no", "ok", "gap", "reset"):
+        if word in ("no", "ok", *CALLS):
             answers.append({"sort": word, "said": numbers} | {name: [] for name in NUMBERS_OF_OK})
         elif word in NUMBERS_OF_OK:
             answers[-1][word] += numbers
@@ -113,19 +124,20 @@ def answers_of(text):
 
 
 def sequences(seed, count):
-    """The records of each sequence, from one reset to the next, with `count` payloads in all."""
-    journal = ask("generate", seed, count, "gaps", "short")
+    """The records of each sequence, a programme start first, with `count` payloads in all."""
+    journal = ask("generate", seed, count, "notices", "short")
     answers = answers_of(ask("journal", given=journal).decode())
     found = []
     for payload, answer in zip(payloads_of(journal), answers, strict=True):
-        if answer["sort"] == "reset":
+        if answer["sort"] == "start":
             found.append([])
-            retained = []
-            continue
+            retained = None
+        record = answer | {"payload": payload, "before": retained}
         # What a refusal or a gap leaves is what was there before.
-        if answer["sort"] == "ok":
-            retained = answer["retained"]
-        found[-1].append(answer | {"payload": payload, "retained": list(retained)})
+        if answer["sort"] in ("no", "gap"):
+            record["retained_row"] = list(retained)
+        retained = record["retained_row"]
+        found[-1].append(record)
     return found
 
 
@@ -145,24 +157,24 @@ def verdict(record):
     if record["sort"] == "no":
         return "refuses " + " ".join(map(str, record["said"]))
     objects, blocks = record["said"]
-    rows = f"start = {integers(record['start'])}; updates = {integers(record['block'])}"
+    rows = f"start = {integers(record['start_row'])}; updates = {integers(record['block_row'])}"
     numbers = f"objects = {objects}; blocks = {blocks}; timings = {naturals(record['timings'])}"
     return f"accepts (record {{ {numbers}; {rows} }})"
 
 
 def said(record):
     """A record as a `Said`."""
-    if record["sort"] == "gap":
-        return "notices"
-    retained = record["retained"]
+    retained = record["retained_row"]
     rows = f"{len(retained) // COMPARED} {integers(retained)}"
+    if record["sort"] in CALLS:
+        return f"calls {CALLS[record['sort']]} {rows}"
     return f"says {naturals(record['payload'])} ({verdict(record)}) {rows}"
 
 
 def theorem(number, records):
     lines = "".join(f"    {said(record)} ∷\n" for record in records)
     name = f"sequence{number}"
-    return f"\n{name} : T (agrees (freshTables .retained) (\n{lines}    []))\nunfolding opened\n{name} = tt\n"
+    return f"\n{name} : T (agrees anyNumbers (\n{lines}    []))\nunfolding opened\n{name} = tt\n"
 
 
 def modules(found):

@@ -60,6 +60,7 @@ fn step(
 ) -> Tally {
     match list::mark() {
         b'S' => tally.sequence(),
+        b'B' => retained::start(tally, retained),
         b'R' => retained::reset(tally, retained),
         b'G' => retained::gap(tally, retained),
         b'P' => payload(tally, retained, start, blocks, timings),

@@ -35,8 +35,9 @@ pub fn print(tally: Tally) {
     line(b"payloads ", tally.payloads);
     line(b"accepted ", tally.accepted);
     line(b"refused ", tally.refused);
-    line(b"gaps ", tally.gaps);
+    line(b"starts ", tally.starts);
     line(b"resets ", tally.resets);
+    line(b"gaps ", tally.gaps);
     line(b"differences ", tally.differences);
     if tally.differences != 0 {
         first_difference(tally);

@@ -23,8 +23,9 @@ pub struct Tally {
     pub payloads: u64,
     pub accepted: u64,
     pub refused: u64,
-    pub gaps: u64,
+    pub starts: u64,
     pub resets: u64,
+    pub gaps: u64,
     pub differences: u64,
     // The first difference: the record, counted from 1 with the sequences' marks, its part, and the index there.
     pub records: u64,
@@ -45,8 +46,9 @@ impl Tally {
             payloads: 0,
             accepted: 0,
             refused: 0,
-            gaps: 0,
+            starts: 0,
             resets: 0,
+            gaps: 0,
             differences: 0,
             records: 0,
             record: 0,
@@ -68,6 +70,12 @@ impl Tally {
     pub fn sequence(mut self) -> Self {
         self.records = more(self.records);
         self.sequences = more(self.sequences);
+        self
+    }
+
+    pub fn start(mut self) -> Self {
+        self.records = more(self.records);
+        self.starts = more(self.starts);
         self
     }
 

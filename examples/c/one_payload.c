@@ -1,4 +1,4 @@
-/* One payload by a fresh decoder: a table of zeros is one. README.md has the line that compiles this. */
+/* One payload, the first of its programme. README.md has the line that compiles this. */
 #include <inttypes.h>
 #include <stdio.h>
 
@@ -11,6 +11,7 @@ int main(void)
 {
     const uint8_t payload[] = {0x01, 0x04, 0x48, 0x00, 0x06, 0x00};
     uint32_t answer[CEPOKARAN_ANSWER_LENGTH] = {0};
+    oamd_start(retained, CEPOKARAN_RETAINED_LENGTH);
     uint32_t number = oamd_decode(payload, sizeof payload, retained, CEPOKARAN_RETAINED_LENGTH, start,
                                   CEPOKARAN_START_LENGTH, blocks, CEPOKARAN_BLOCKS_LENGTH, timings,
                                   CEPOKARAN_TIMINGS_LENGTH, answer);

@@ -1,7 +1,9 @@
 /*
- * A rack's loop in C: a short programme with a power dip in its middle.
+ * A rack's loop in C: a short programme, with a power dip in it, and a rack that is re-patched.
  *
  * The programme has three objects: an Lfe, a narrator and a bell. It is played from the bytes below.
+ * A rack says what it knows of the past by one of three calls: oamd_start at the head of a programme,
+ * oamd_reset when it is switched on or re-patched, and oamd_gap when it missed something.
  * tools/rack_loop builds this program, runs it, and compares what it prints with rack_loop.expected.
  */
 #include <inttypes.h>
@@ -52,21 +54,28 @@ static const uint8_t late[] = {0x05, 0x84, 0x68, 0x00, 0x34, 0x43, 0x41,
 static const uint8_t after[] = {0x05, 0x84, 0x68, 0x08, 0x02, 0x04, 0x48,
                                 0x34, 0x1D, 0x00, 0x81, 0x48, 0xCA, 0xE0};
 
+enum rack {
+    HEARS,
+    HAS_NO_POWER,
+    IS_REPATCHED /* just before the frame */
+};
+
 struct frame {
     const char *says;
     const uint8_t *payload;
     size_t length;
-    int missed; /* in the power dip: the rack hears nothing */
+    enum rack rack;
 };
 
 static const struct frame programme[] = {
-    {"everyone is told", told, sizeof told, 0},
-    {"the narrator walks", walk, sizeof walk, 0},
-    {"the bell moves", late, sizeof late, 1},
-    {"the bell is where it was", rejoin, sizeof rejoin, 0},
-    {"the bell moves, and its ramp is too long", late, sizeof late, 0},
-    {"a payload whose end was lost", late, sizeof late - 5, 0},
-    {"the bell is where it was", after, sizeof after, 0},
+    {"everyone is told", told, sizeof told, HEARS},
+    {"the narrator walks", walk, sizeof walk, HEARS},
+    {"the bell moves", late, sizeof late, HAS_NO_POWER},
+    {"the bell is where it was", rejoin, sizeof rejoin, HEARS},
+    {"the bell moves, and its ramp is too long", late, sizeof late, HEARS},
+    {"a payload whose end was lost", late, sizeof late - 5, HEARS},
+    {"the bell is where it was", after, sizeof after, HEARS},
+    {"the bell is where it was", after, sizeof after, IS_REPATCHED},
 };
 
 static const char *const names[] = {"lfe", "narrator", "bell"};
@@ -142,11 +151,12 @@ static void play(const struct frame *frame)
 int main(void)
 {
     int missed = 0;
-    if (oamd_reset(retained, CEPOKARAN_RETAINED_LENGTH) != CEPOKARAN_ACCEPTED)
+    /* The first payload to come is the programme's first. */
+    if (oamd_start(retained, CEPOKARAN_RETAINED_LENGTH) != CEPOKARAN_ACCEPTED)
         return 1;
     for (size_t i = 0; i < sizeof programme / sizeof *programme; i++) {
         printf("frame %zu: %s\n", i + 1, programme[i].says);
-        if (programme[i].missed) {
+        if (programme[i].rack == HAS_NO_POWER) {
             printf("  no power\n");
             missed = 1;
             continue;
@@ -155,6 +165,9 @@ int main(void)
         if (missed)
             printf("  gap notice: %" PRIu32 "\n", oamd_gap(retained, CEPOKARAN_RETAINED_LENGTH));
         missed = 0;
+        /* A programme is under way, and nothing that is retained need be of it. */
+        if (programme[i].rack == IS_REPATCHED)
+            printf("  reset: %" PRIu32 "\n", oamd_reset(retained, CEPOKARAN_RETAINED_LENGTH));
         play(&programme[i]);
     }
     return 0;

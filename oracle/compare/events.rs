@@ -23,13 +23,13 @@ pub enum Event {
 /// Whether the second can know that it missed something.
 #[derive(Clone, Copy, Debug, Default, PartialEq, Eq)]
 pub enum Following {
-    /// It missed nothing that it was not warned of.
+    /// It got a notice since the last payload that both heard.
+    Warned,
+    /// It missed a payload unwarned, and got no notice since.
+    Astray,
+    /// Neither.
     #[default]
     Abreast,
-    /// It got a notice, and no payload since.
-    Warned,
-    /// It missed a payload, and got no notice since the last one that it heard.
-    Astray,
 }
 
 impl Following {

@@ -69,7 +69,7 @@ fn bench_cases() -> Vec<Vec<Record>> {
     all
 }
 
-/// Each aimed payload between two valid ones of the same kinds, sometimes with a notice before it.
+/// Each aimed payload between two valid ones of the same kinds, sometimes with a warning before it.
 fn aimed(random: &mut Random) -> Vec<Vec<Record>> {
     let aims = aims();
     let sequence = |aim: &Aim| {
@@ -94,7 +94,7 @@ fn drawn_payload(random: &mut Random, assignment: &Assignment) -> Record {
 /// Sequences with gap notices and resets; now and then a further programme start within.
 fn drawn(random: &mut Random) -> Vec<Vec<Record>> {
     let options = Options {
-        notices: true,
+        warnings: true,
         short: true,
     };
     let mut generator = Generator::new(random.next(), options);

@@ -11,7 +11,7 @@ use crate::random::Random;
 #[derive(Clone, Copy, Default)]
 pub struct Options {
     /// Gap notices are strewn in, and fewer resets.
-    pub notices: bool,
+    pub warnings: bool,
     /// At most 40 objects, and no payload padded to hundreds of bytes.
     pub short: bool,
 }
@@ -71,15 +71,15 @@ impl Generator {
         self.left == 0
     }
 
-    /// The next payload as a record, after a programme start where a sequence begins, and perhaps a notice.
+    /// The next payload as a record, after a programme start where a sequence begins, and perhaps a warning.
     pub fn next_records(&mut self) -> Vec<Record> {
         let mut records = Vec::new();
         if self.starts_sequence() {
             records.push(Record::Call(Call::Start));
         }
-        if self.options.notices && self.random.once_in(4) {
-            let notices = [Call::Gap, Call::Gap, Call::Gap, Call::Reset];
-            records.push(Record::Call(self.random.pick(&notices)));
+        if self.options.warnings && self.random.once_in(4) {
+            let warnings = [Call::Gap, Call::Gap, Call::Gap, Call::Reset];
+            records.push(Record::Call(self.random.pick(&warnings)));
         }
         records.push(Record::Payload(self.next_payload()));
         records

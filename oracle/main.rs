@@ -18,8 +18,8 @@
 //!     NUMBER FROM TO BITS       the timing test's number (0, 8, 9, 10), the rows chosen (0 the
 //!                               start row, b + 1 block b) and the f32 fraction, by its bits
 //!
-//! `generate SEED COUNT [notices] [short]`: writes a journal with COUNT payloads in sequences, a
-//!     programme start before each; notices: with gap notices and resets; short: at most 40 objects,
+//! `generate SEED COUNT [warnings] [short]`: writes a journal with COUNT payloads in sequences, a
+//!     programme start before each; warnings: with gap notices and resets; short: at most 40 objects,
 //!     and no very long payload.
 //!
 //! `list SEED`: writes the fixed list that the program `replay` runs; it fails if a reachable pair of
@@ -36,7 +36,7 @@ use std::process::ExitCode;
 mod count;
 mod fixed_list;
 
-const USAGE: &str = "usage: oracle journal | timing | generate SEED COUNT [notices] [short] | \
+const USAGE: &str = "usage: oracle journal | timing | generate SEED COUNT [warnings] [short] | \
     list SEED | count SEED COUNT";
 
 fn main() -> ExitCode {
@@ -97,12 +97,12 @@ fn answer_timings(out: &mut impl Write) -> io::Result<()> {
 fn generate(seed: &str, count: &str, options: &[&str], out: &mut impl Write) -> io::Result<()> {
     if options
         .iter()
-        .any(|option| !["notices", "short"].contains(option))
+        .any(|option| !["warnings", "short"].contains(option))
     {
         return Err(io::Error::other(USAGE));
     }
     let options = Options {
-        notices: options.contains(&"notices"),
+        warnings: options.contains(&"warnings"),
         short: options.contains(&"short"),
     };
     let mut generator = Generator::new(number(seed), options);

@@ -125,7 +125,7 @@ def answers_of(text):
 
 def sequences(seed, count):
     """The records of each sequence, a programme start first, with `count` payloads in all."""
-    journal = ask("generate", seed, count, "notices", "short")
+    journal = ask("generate", seed, count, "warnings", "short")
     answers = answers_of(ask("journal", given=journal).decode())
     found = []
     for payload, answer in zip(payloads_of(journal), answers, strict=True):

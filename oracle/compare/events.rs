@@ -4,8 +4,8 @@
 use oracle::call::Call;
 use oracle::random::Random;
 
-/// A reset counts as a gap.
-const NOTICES: [Call; 2] = [Call::Gap, Call::Reset];
+/// A gap notice, or a reset, which counts as a gap.
+const WARNINGS: [Call; 2] = [Call::Gap, Call::Reset];
 
 #[derive(Clone, Copy, Debug, PartialEq, Eq)]
 pub enum Event {
@@ -15,7 +15,7 @@ pub enum Event {
     Heard,
     /// A payload, to the first alone.
     Missed,
-    /// A gap notice or a reset, to the second alone.
+    /// A warning, to the second alone.
     Warns(Call),
     WarnsBoth(Call),
 }
@@ -23,9 +23,9 @@ pub enum Event {
 /// Whether the second can know that it missed something.
 #[derive(Clone, Copy, Debug, Default, PartialEq, Eq)]
 pub enum Following {
-    /// It got a notice since the last payload that both heard.
+    /// It got a warning since the last payload that both heard.
     Warned,
-    /// It missed a payload unwarned, and got no notice since.
+    /// It missed a payload unwarned, and got no warning since.
     Astray,
     /// Neither.
     #[default]
@@ -44,7 +44,7 @@ impl Following {
     }
 }
 
-/// What comes with the next payload. Mostly a notice that is owed is given before both hear one.
+/// What comes with the next payload. Mostly a warning that is owed is given before both hear one.
 pub fn drawn(random: &mut Random, following: Following) -> Vec<Event> {
     let turns = if following == Following::Abreast {
         3
@@ -59,20 +59,20 @@ pub fn drawn(random: &mut Random, following: Following) -> Vec<Event> {
     let owed = following == Following::Astray && payload == Event::Heard;
     let mut events = Vec::new();
     if owed && !random.once_in(8) {
-        events.push(drawn_notice(random));
+        events.push(drawn_warning(random));
     } else if random.once_in(5) {
-        let notice = drawn_notice(random);
-        events.push(random.pick(&[notice, notice, notice, Event::Starts]));
+        let warning = drawn_warning(random);
+        events.push(random.pick(&[warning, warning, warning, Event::Starts]));
     }
     events.push(payload);
     if payload == Event::Missed && random.once_in(3) {
         // In place of the payload.
-        events.push(Event::Warns(random.pick(&NOTICES)));
+        events.push(Event::Warns(random.pick(&WARNINGS)));
     }
     events
 }
 
-fn drawn_notice(random: &mut Random) -> Event {
-    let call = random.pick(&NOTICES);
+fn drawn_warning(random: &mut Random) -> Event {
+    let call = random.pick(&WARNINGS);
     random.pick(&[Event::Warns(call), Event::WarnsBoth(call)])
 }

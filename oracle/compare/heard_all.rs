@@ -67,12 +67,12 @@ impl HeardAll {
         self.following == Following::Astray && self.breach != Some(Breach::AstrayCompared)
     }
 
-    /// A payload that the proved decoder did not get.
+    /// A payload that is not compared.
     pub fn hear(&mut self, payload: &[u8]) {
         let _ = self.oracle.decode(payload);
     }
 
-    /// A payload that both got. `doubted` says whether the proved decoder's doubt stood before it.
+    /// A payload that both hear. `doubted` says whether the proved decoder's doubt stood before it.
     pub fn compare(
         &mut self,
         payload: &[u8],

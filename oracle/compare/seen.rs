@@ -40,14 +40,14 @@ const EVENTS: [&str; 6] = [
     GAPS_ALONE,
 ];
 
-const ONE_BEFORE: &str = "one payload missed, one notice before it";
-const ONE_BEHIND: &str = "one payload missed, one notice behind it";
-const BEFORE: &str = "several missed, one notice before them";
-const BETWEEN: &str = "several missed, one notice between them";
-const BEHIND: &str = "several missed, one notice behind them";
-const IN_PLACE: &str = "several missed, a notice to it alone in place of each";
-const NOTICES: &str = "one or more missed, several notices otherwise";
-const NO_NOTICE: &str = "one or more missed, no notice";
+const ONE_BEFORE: &str = "one payload missed, one warning before it";
+const ONE_BEHIND: &str = "one payload missed, one warning behind it";
+const BEFORE: &str = "several missed, one warning before them";
+const BETWEEN: &str = "several missed, one warning between them";
+const BEHIND: &str = "several missed, one warning behind them";
+const IN_PLACE: &str = "several missed, a warning to it alone in place of each";
+const WARNINGS: &str = "one or more missed, several warnings otherwise";
+const UNWARNED: &str = "one or more missed, no warning";
 const STARTED: &str = "one or more missed, then a programme start";
 const RESET_ALONE: &str = "none missed, one reset to it alone";
 const GAP_ALONE: &str = "none missed, one gap notice to it alone";
@@ -58,8 +58,8 @@ const STRETCHES: [&str; 11] = [
     BETWEEN,
     BEHIND,
     IN_PLACE,
-    NOTICES,
-    NO_NOTICE,
+    WARNINGS,
+    UNWARNED,
     STARTED,
     RESET_ALONE,
     GAP_ALONE,
@@ -107,8 +107,8 @@ pub struct Seen {
 #[derive(Default)]
 struct Stretch {
     missed: usize,
-    /// Each notice, and how many payloads were missed before it.
-    notices: Vec<(usize, Event)>,
+    /// Each warning, and how many payloads were missed before it.
+    warnings: Vec<(usize, Event)>,
 }
 
 impl Seen {
@@ -198,7 +198,7 @@ impl Stretch {
     fn goes_on(&mut self, event: Event) -> Option<&'static str> {
         match event {
             Event::Missed => self.missed += 1,
-            Event::Warns(_) | Event::WarnsBoth(_) => self.notices.push((self.missed, event)),
+            Event::Warns(_) | Event::WarnsBoth(_) => self.warnings.push((self.missed, event)),
             Event::Heard => return take(self).name(),
             Event::Starts => return (take(self).missed > 0).then_some(STARTED),
         }
@@ -206,24 +206,24 @@ impl Stretch {
     }
 
     fn name(&self) -> Option<&'static str> {
-        match (self.missed, &self.notices[..]) {
+        match (self.missed, &self.warnings[..]) {
             (0, [(_, Event::Warns(Call::Reset))]) => Some(RESET_ALONE),
             (0, [(_, Event::Warns(_))]) => Some(GAP_ALONE),
             (0, _) => None,
-            (_, []) => Some(NO_NOTICE),
+            (_, []) => Some(UNWARNED),
             (1, [(0, _)]) => Some(ONE_BEFORE),
             (1, [_]) => Some(ONE_BEHIND),
             (_, [(0, _)]) => Some(BEFORE),
             (missed, [(at, _)]) if *at == missed => Some(BEHIND),
             (_, [_]) => Some(BETWEEN),
             _ if self.is_in_place() => Some(IN_PLACE),
-            _ => Some(NOTICES),
+            _ => Some(WARNINGS),
         }
     }
 
     fn is_in_place(&self) -> bool {
         let alone = |event: &Event| matches!(event, Event::Warns(_));
-        let places = self.notices.iter().map(|(at, _)| *at);
-        places.eq(1..=self.missed) && self.notices.iter().all(|(_, event)| alone(event))
+        let places = self.warnings.iter().map(|(at, _)| *at);
+        places.eq(1..=self.missed) && self.warnings.iter().all(|(_, event)| alone(event))
     }
 }

@@ -115,7 +115,7 @@ impl Listener {
         }
     }
 
-    /// The whole retained table, zeros behind the rows: as a programme start, a reset or the last acceptance left it.
+    /// The whole retained table, zeros behind the rows: as a start, a reset or the last acceptance left it.
     pub fn retained(&self) -> Vec<i16> {
         let rows = self.oracle.retained();
         let mut table = vec![0; RETAINED_LENGTH];

@@ -176,6 +176,14 @@ impl Seen {
                 println!("{:9} {name}", self.times(name));
             }
         }
+        let sum = |names: &[&str]| names.iter().map(|name| self.times(name)).sum::<u64>();
+        println!(
+            "in all: programme starts {}, resets {}, gap notices {}, payloads missed {}",
+            sum(&[START, STARTS, STARTS_TO_BOTH]),
+            sum(&[RESET, RESETS, RESETS_TO_BOTH, RESETS_ALONE]),
+            sum(&[GAPS, GAPS_TO_BOTH, GAPS_ALONE]),
+            sum(&[MISSED])
+        );
     }
 
     fn times(&self, name: &str) -> u64 {

@@ -1,8 +1,8 @@
 //! A Rust decoder that heard every payload, beside a proved one that missed some and was told so.
 //!
-//! What must agree, unless the proved one went astray: refusals, kinds, timings; in block rows activity,
-//! gain and priority; in start rows the same, unless doubt stood, by a gap notice or a reset; and the
-//! picture wherever the proved decoder calls it settled.
+//! What must agree: refusals, kinds, timings, and in block rows activity, gain and priority. Unless the
+//! proved one is astray, so must the picture wherever it is called settled, and in start rows activity,
+//! gain and priority, unless doubt stood, by a gap notice or a reset.
 
 use crate::difference::{number, Difference};
 use crate::events::{Event, Following};
@@ -33,7 +33,7 @@ pub struct HeardAll {
 pub enum Breach {
     /// A programme start goes to the proved decoder alone.
     StartToOne,
-    /// What the proved decoder hears astray is compared.
+    /// What the proved decoder hears astray is compared in full.
     AstrayCompared,
 }
 
@@ -43,12 +43,38 @@ pub const BREACHES: [Breach; 2] = [Breach::StartToOne, Breach::AstrayCompared];
 #[derive(Clone, Copy, Debug, PartialEq, Eq)]
 pub enum Wrong {
     Timing,
-    /// A column of a start row, without doubt, settled if it is of the picture.
+    /// A column of a start row that has to agree.
     Start(usize),
-    /// A column of a block row, settled if it is of the picture.
+    /// A column of a block row that has to agree.
     Block(usize),
-    /// A column of the picture that is not settled: this must not be found.
-    Unsettled(usize),
+    /// The same where the proved decoder is astray.
+    Astray(usize),
+    /// A column of a block row that need not agree: this must not be found.
+    Free(usize),
+}
+
+/// What stood before a payload that both hear.
+#[derive(Clone, Copy)]
+struct Before {
+    doubted: bool,
+    astray: bool,
+}
+
+impl Before {
+    /// Whether a column of a start row has to agree.
+    fn binds_start(self, column: usize, row: &[i16]) -> bool {
+        let told = if SOUND.contains(&column) {
+            !self.doubted
+        } else {
+            row[MARK] == 1
+        };
+        KIND.contains(&column) || (told && !self.astray)
+    }
+
+    /// Of a block row all but the picture is told by the payload itself.
+    fn binds_block(self, column: usize, row: &[i16]) -> bool {
+        !PICTURE.contains(&column) || (row[MARK] == 1 && !self.astray)
+    }
 }
 
 impl HeardAll {
@@ -63,11 +89,11 @@ impl HeardAll {
     }
 
     /// Whether the proved decoder cannot know that it missed something.
-    pub fn cannot_agree(&self) -> bool {
+    fn is_astray(&self) -> bool {
         self.following == Following::Astray && self.breach != Some(Breach::AstrayCompared)
     }
 
-    /// A payload that is not compared.
+    /// A payload that the proved decoder misses.
     pub fn hear(&mut self, payload: &[u8]) {
         let _ = self.oracle.decode(payload);
     }
@@ -88,12 +114,16 @@ impl HeardAll {
             }
             Ok(mut frame) => {
                 number("heard all: number", 0, said.number)?;
+                let before = Before {
+                    doubted,
+                    astray: self.is_astray(),
+                };
                 if let Some(wrong) = self.spoil {
-                    if wrong.apply(&mut frame, tables, doubted) {
+                    if wrong.apply(&mut frame, tables, before) {
                         self.spoil = None;
                     }
                 }
-                compare_frame(&frame, said, tables, doubted)
+                compare_frame(&frame, said, tables, before)
             }
         }
     }
@@ -103,7 +133,7 @@ fn compare_frame(
     frame: &Frame,
     said: &Said,
     tables: &Tables,
-    doubted: bool,
+    before: Before,
 ) -> Result<(), Difference> {
     number("heard all: objects", frame.kinds.len() as u32, said.objects)?;
     number("heard all: blocks", frame.timings.len() as u32, said.blocks)?;
@@ -111,31 +141,25 @@ fn compare_frame(
         number("heard all: timings", *heard, found)?;
     }
     for (heard, found) in frame.start.iter().zip(tables.start.chunks(ROW_WIDTH)) {
-        compare_columns("start", KIND, heard, found)?;
-        if !doubted {
-            compare_columns("start", SOUND, heard, found)?;
-        }
-        if found[MARK] == 1 {
-            compare_columns("start", PICTURE, heard, found)?;
-        }
+        compare_row("start", heard, found, |column| {
+            before.binds_start(column, found)
+        })?;
     }
     for (heard, found) in frame.blocks.iter().zip(tables.blocks.chunks(ROW_WIDTH)) {
-        compare_columns("block", KIND, heard, found)?;
-        compare_columns("block", SOUND, heard, found)?;
-        if found[MARK] == 1 {
-            compare_columns("block", PICTURE, heard, found)?;
-        }
+        compare_row("block", heard, found, |column| {
+            before.binds_block(column, found)
+        })?;
     }
     Ok(())
 }
 
-fn compare_columns(
+fn compare_row(
     table: &str,
-    columns: Range<usize>,
     heard: &Row,
     found: &[i16],
+    binds: impl Fn(usize) -> bool,
 ) -> Result<(), Difference> {
-    for column in columns {
+    for column in (0..MARK).filter(|&column| binds(column)) {
         if heard[column] != found[column] {
             let part = format!("heard all: {table} {}", COLUMNS[column]);
             return number(&part, heard[column], found[column]);
@@ -149,35 +173,30 @@ impl Wrong {
         let mut all = vec![Wrong::Timing];
         all.extend((0..MARK).map(Wrong::Start));
         all.extend((0..MARK).map(Wrong::Block));
-        all.extend(PICTURE.map(Wrong::Unsettled));
+        all.extend((0..X).map(Wrong::Astray));
+        all.extend(PICTURE.map(Wrong::Free));
         all
     }
 
     pub fn is_found(self) -> bool {
-        !matches!(self, Wrong::Unsettled(_))
+        !matches!(self, Wrong::Free(_))
     }
 
     /// Answers whether the frame has such a number.
-    fn apply(self, frame: &mut Frame, tables: &Tables, doubted: bool) -> bool {
-        let settled = |column: usize, row: &[i16]| row[MARK] == 1 || !PICTURE.contains(&column);
+    fn apply(self, frame: &mut Frame, tables: &Tables, before: Before) -> bool {
+        let start = frame.start.iter_mut().zip(tables.start.chunks(ROW_WIDTH));
+        let blocks = frame.blocks.iter_mut().zip(tables.blocks.chunks(ROW_WIDTH));
         match self {
             Wrong::Timing => {
                 frame.timings[0][0] ^= 1;
                 true
             }
-            Wrong::Start(column) => {
-                let rows = frame.start.iter_mut().zip(tables.start.chunks(ROW_WIDTH));
-                let free = doubted && SOUND.contains(&column);
-                flip(rows, column, |row| settled(column, row) && !free)
+            Wrong::Start(column) => flip(start, column, |row| before.binds_start(column, row)),
+            Wrong::Block(column) => flip(blocks, column, |row| before.binds_block(column, row)),
+            Wrong::Astray(column) => {
+                before.astray && flip(blocks, column, |row| before.binds_block(column, row))
             }
-            Wrong::Block(column) => {
-                let rows = frame.blocks.iter_mut().zip(tables.blocks.chunks(ROW_WIDTH));
-                flip(rows, column, |row| settled(column, row))
-            }
-            Wrong::Unsettled(column) => {
-                let rows = frame.blocks.iter_mut().zip(tables.blocks.chunks(ROW_WIDTH));
-                flip(rows, column, |row| row[MARK] == 0)
-            }
+            Wrong::Free(column) => flip(blocks, column, |row| !before.binds_block(column, row)),
         }
     }
 }

@@ -179,10 +179,6 @@ impl Run {
     fn heard(&mut self, payload: &[u8]) -> Result<(), Difference> {
         let doubted = self.bench.found.retained[DOUBT] == 1;
         let said = self.decode(payload)?.said;
-        if self.all.cannot_agree() {
-            self.all.hear(payload);
-            return Ok(());
-        }
         let accepted = said.number == 0;
         let sort = if accepted {
             seen::FRAMES

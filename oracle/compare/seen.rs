@@ -21,8 +21,8 @@ const CALLS: [&str; 3] = [STARTS, RESETS, GAPS];
 
 pub const FRAMES: &str = "frames compared";
 pub const REFUSALS: &str = "refusals compared";
-const ASTRAY: &str = "payloads not compared, since it went astray";
-const AGAIN: &str = "payloads compared again after it went astray";
+const ASTRAY: &str = "payloads heard astray, and compared but for what it retained";
+const AGAIN: &str = "payloads compared in full again after it went astray";
 const COMPARED: [&str; 4] = [FRAMES, REFUSALS, ASTRAY, AGAIN];
 
 const MISSED: &str = "payloads that it missed";
@@ -99,7 +99,7 @@ const GROUPS: [(&str, &[&str]); 6] = [
 pub struct Seen {
     counts: BTreeMap<&'static str, u64>,
     stretch: Stretch,
-    /// Whether a payload was heard astray, and none compared since.
+    /// Whether a payload was heard astray, and none compared in full since.
     strayed: bool,
 }
 

@@ -122,58 +122,75 @@ first-same k g (active w r) a b h =
       priority = said-forgets (w .priority) (a .priority) (b .priority) (and-right (isSome (w .gain)) (isSome (w .priority)) hb);
     }
 
--- The rows of an object, block by block
+-- The rows of an object, block by block: the rest is the same from block 0 on, and what an update keeps of two rows is kept
 
-pub record Agree (k : Kind) (a b : Row) : Type 0 where
+pub record Agree (C : Kind → Row → Row → Type 0) (k : Kind) (a b : Row) : Type 0 where
   pub same : Same a b
-  pub close : Close k a b
-
-later-agree : (k : Kind) (us : List Update) (gs : List ℤ) (a b : Row) → Agree k a b → Pairs (Agree k) (objectRows k a us gs) (objectRows k b us gs)
-unfolding objectRows
-later-agree k [] gs a b h = tt
-later-agree k (u ∷ us) gs a b h =
-    let g = getD gs 0 (pos 0) in
-    let h′ : Agree k (updated k g u a) (updated k g u b) = record { same = later-same k g u a b (h .same); close = update-close k g u a b (h .close) } in
-    (h′, later-agree k us (drop 1 gs) _ _ h′)
-
-object-agree : (k : Kind) (us : List Update) (gs : List ℤ) (a b : Row) → FirstIn k us → Close k a b → Pairs (Agree k) (objectRows k a us gs) (objectRows k b us gs)
-unfolding objectRows
-object-agree k [] gs a b f c = absurd f
-object-agree k (u ∷ us) gs a b f c =
-    let g = getD gs 0 (pos 0) in
-    let h′ : Agree k (updated k g u a) (updated k g u b) = record { same = first-same k g u a b f; close = update-close k g u a b c } in
-    (h′, later-agree k us (drop 1 gs) _ _ h′)
-
-gains-agree : (k : Kind) (xs ys : List Row) → Pairs (Agree k) xs ys → map gainOf xs ≡ map gainOf ys
-gains-agree k [] [] h = refl
-gains-agree k [] (b ∷ ys) h = absurd h
-gains-agree k (a ∷ xs) [] h = absurd h
-gains-agree k (a ∷ xs) (b ∷ ys) h = λ i. h .0 .same .gain i ∷ gains-agree k xs ys (h .1) i
-
--- The rows of a frame
+  pub close : C k a b
 
 -- start rows, object by object
-abbrev pub Starts : List Object → List Row → List Row → Type 0
-Starts [] xs ys = Unit {0}
-Starts (o ∷ os) xs ys = Close (o .kind) (getD xs 0 noRow) (getD ys 0 noRow) × Starts os (drop 1 xs) (drop 1 ys)
+abbrev pub Starts : (Kind → Row → Row → Type 0) → List Object → List Row → List Row → Type 0
+Starts C [] xs ys = Unit {0}
+Starts C (o ∷ os) xs ys = C (o .kind) (getD xs 0 noRow) (getD ys 0 noRow) × Starts C os (drop 1 xs) (drop 1 ys)
+
+module _ (C : Kind → Row → Row → Type 0) (keeps : (k : Kind) (g : ℤ) (u : Update) (a b : Row) → C k a b → C k (updated k g u a) (updated k g u b)) where
+  later-agree : (k : Kind) (us : List Update) (gs : List ℤ) (a b : Row) → Agree C k a b → Pairs (Agree C k) (objectRows k a us gs) (objectRows k b us gs)
+  unfolding objectRows
+  later-agree k [] gs a b h = tt
+  later-agree k (u ∷ us) gs a b h =
+      let g = getD gs 0 (pos 0) in
+      let h′ : Agree C k (updated k g u a) (updated k g u b) = record { same = later-same k g u a b (h .same); close = keeps k g u a b (h .close) } in
+      (h′, later-agree k us (drop 1 gs) _ _ h′)
+
+  object-agree : (k : Kind) (us : List Update) (gs : List ℤ) (a b : Row) → FirstIn k us → C k a b → Pairs (Agree C k) (objectRows k a us gs) (objectRows k b us gs)
+  unfolding objectRows
+  object-agree k [] gs a b f c = absurd f
+  object-agree k (u ∷ us) gs a b f c =
+      let g = getD gs 0 (pos 0) in
+      let h′ : Agree C k (updated k g u a) (updated k g u b) = record { same = first-same k g u a b f; close = keeps k g u a b c } in
+      (h′, later-agree k us (drop 1 gs) _ _ h′)
+
+  gains-agree : (k : Kind) (xs ys : List Row) → Pairs (Agree C k) xs ys → map gainOf xs ≡ map gainOf ys
+  gains-agree k [] [] h = refl
+  gains-agree k [] (b ∷ ys) h = absurd h
+  gains-agree k (a ∷ xs) [] h = absurd h
+  gains-agree k (a ∷ xs) (b ∷ ys) h = λ i. h .0 .same .gain i ∷ gains-agree k xs ys (h .1) i
+
+  -- R is what that says of two rows
+  module _ (R : Row → Row → Type 0) (says : (k : Kind) (a b : Row) → Agree C k a b → R a b) where
+    rows-agree : (k : Kind) (xs ys : List Row) → Pairs (Agree C k) xs ys → Pairs R xs ys
+    rows-agree k [] [] h = tt
+    rows-agree k [] (b ∷ ys) h = absurd h
+    rows-agree k (a ∷ xs) [] h = absurd h
+    rows-agree k (a ∷ xs) (b ∷ ys) h = (says k a b (h .0), rows-agree k xs ys (h .1))
+
+    all-agree : (os : List Object) (xs ys : List Row) (gs hs : List ℤ) → gs ≡ hs → All ObjectForm os → Starts C os xs ys
+        → Pairs (Pairs R) (allRows os xs gs) (allRows os ys hs)
+    unfolding allRows
+    all-agree [] xs ys gs hs e f s = tt
+    all-agree (o ∷ os) xs ys gs hs e f s =
+        let r : List Row = objectRows (o .kind) (getD xs 0 noRow) (o .updates) gs in
+        let q : List Row = objectRows (o .kind) (getD ys 0 noRow) (o .updates) hs in
+        let h : Pairs (Agree C (o .kind)) r q = rw (← e) (object-agree (o .kind) (o .updates) gs _ _ (f .0) (s .0)) in
+        (rows-agree (o .kind) r q h, all-agree os (drop 1 xs) (drop 1 ys) (map gainOf r) (map gainOf q) (gains-agree (o .kind) r q h) (f .1) (s .1))
+
+-- The rows of a frame
 
 -- what demand 3 says of a row in a block
 pub record RowAgree (a b : Row) : Type 0 where
   pub same : Same a b
   pub picture : Settled a b
 
-rows-agree : (k : Kind) (xs ys : List Row) → Pairs (Agree k) xs ys → Pairs RowAgree xs ys
-rows-agree k [] [] h = tt
-rows-agree k [] (b ∷ ys) h = absurd h
-rows-agree k (a ∷ xs) [] h = absurd h
-rows-agree k (a ∷ xs) (b ∷ ys) h = (record { same = h .0 .same; picture = h .0 .close .settled }, rows-agree k xs ys (h .1))
+pub frames-agree : (os : List Object) (xs ys : List Row) → All ObjectForm os → Starts Close os xs ys → Pairs (Pairs RowAgree) (allRows os xs []) (allRows os ys [])
+frames-agree os xs ys f s = all-agree Close update-close RowAgree (λ k a b h. record { same = h .same; picture = h .close .settled }) os xs ys [] [] refl f s
 
-pub frames-agree : (os : List Object) (xs ys : List Row) (gs hs : List ℤ) → gs ≡ hs → All ObjectForm os → Starts os xs ys
-    → Pairs (Pairs RowAgree) (allRows os xs gs) (allRows os ys hs)
-unfolding allRows
-frames-agree [] xs ys gs hs e f s = tt
-frames-agree (o ∷ os) xs ys gs hs e f s =
-    let r : List Row = objectRows (o .kind) (getD xs 0 noRow) (o .updates) gs in
-    let q : List Row = objectRows (o .kind) (getD ys 0 noRow) (o .updates) hs in
-    let h : Pairs (Agree (o .kind)) r q = rw (← e) (object-agree (o .kind) (o .updates) gs _ _ (f .0) (s .0)) in
-    (rows-agree (o .kind) r q h, frames-agree os (drop 1 xs) (drop 1 ys) (map gainOf r) (map gainOf q) (gains-agree (o .kind) r q h) (f .1) (s .1))
+-- and what holds whatever the rows start from
+pub frames-same : (os : List Object) (xs ys : List Row) → All ObjectForm os → Pairs (Pairs Same) (allRows os xs []) (allRows os ys [])
+frames-same os xs ys f = all-agree any (λ k g u a b h. tt) Same (λ k a b h. h .same) os xs ys [] [] refl f (nothing-asked os xs ys)
+  where
+    any : Kind → Row → Row → Type 0
+    any k a b = Unit {0}
+
+    nothing-asked : (os : List Object) (xs ys : List Row) → Starts any os xs ys
+    nothing-asked [] xs ys = tt
+    nothing-asked (o ∷ os) xs ys = (tt, nothing-asked os (drop 1 xs) (drop 1 ys))

@@ -1,19 +1,16 @@
--- What a refusal leaves, and what it depends on.
+-- What a refusal leaves, and where it stands.
 use Prim.Native.Nat.{ℕ, _*_, _≤_}
 use mathlib.Core.Path.{_≡_, refl}
 use mathlib.Core.Bool.{true, false}
 use mathlib.Core.List.{List}
 use native.Mathlib.Omega.{arith}
 use lib.Dec.{leb}
-use lib.IntN.{ℤ}
 use lib.ListN.{length}
 use Rattle.standard.specs.Numbers.{payloadLimit, accepted}
 use Rattle.standard.specs.Numbers as number
 use Rattle.standard.specs.Tables.{inForm}
 use Rattle.standard.specs.Calls.{Lent, unchanged, hasRoom, accept, decline, decode}
-use Rattle.standard.specs.Events.{Beside, lend}
-use Rattle.standard.proofs.Endings.{Fit, fit, ends}
-use Rattle.standard.proofs.Tabled.{Good, Enough, two-calls}
+use Rattle.standard.proofs.Endings.{ends}
 
 -- Room, form and size (5, 6, 7) come in this order and before the payload, and what they refuse changes nothing
 
@@ -38,13 +35,6 @@ unfolding accept decline
 refusal-leaves s l =
     ends (λ d. (d .answer .verdict .number ≡ accepted → ⊥) → d .lent .retained ≡ l .retained) s l (λ n x y h. refl) (λ p r b h. refl)
     (λ p t f h. absurd (h refl))
-
--- Whether and how a payload is refused depends on the payload alone, whatever tables in form are lent.
-pub verdict-alone : (b c : Beside) (l m : List ℤ) (s : List ℕ) → Enough b → Enough c → Good l → Good m
-    → decode s (lend b l) .answer .verdict ≡ decode s (lend c m) .answer .verdict
-unfolding accept decline
-verdict-alone b c l m s hb hc g h =
-    two-calls Fit s (fit s) (λ x y. x .answer .verdict ≡ y .answer .verdict) b c l m hb hc g h (λ t f. refl) (λ r. refl) refl
 
 -- A place lies within the longest payload, so that it fits 32 bits.
 pub place-fits : (s : List ℕ) (l : Lent) → decode s l .answer .verdict .place ≤ payloadLimit * 8

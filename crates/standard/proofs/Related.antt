@@ -12,11 +12,11 @@ use Rattle.standard.specs.Marks.{settled, unsettled, marked}
 use Rattle.standard.specs.Meaning.{defaultRow, heldRow, sameKinds, startRows, rowPicture, updated, objectRows, allRows, gainOf, frameRows, lastRow, lastRows, retain, retainIf}
 use Rattle.standard.specs.Events.{starts}
 use Rattle.standard.proofs.Small.{number-is, Pairs}
-use Rattle.standard.proofs.Starts.{start-each}
+use Rattle.standard.proofs.Starts.{start-each, start-any}
 use Rattle.standard.proofs.RowsOfFrame.{last-rows-have}
 use Rattle.standard.proofs.MarkLaws.{mark-none, none-differs}
 use Rattle.standard.proofs.FirstUpdates.{TreeForm}
-use Rattle.standard.proofs.Agreement.{Same, Settled, Starts, RowAgree, frames-agree}
+use Rattle.standard.proofs.Agreement.{Same, Settled, Close, Starts, RowAgree, frames-agree, frames-same}
 
 -- Fixed kinds keep the default picture
 
@@ -130,7 +130,7 @@ starts-agree a b ks r = go (is 0 (b .doubt)) refl
 -- Block rows
 
 starts-close : (os : List Object) (xs ys : List Row) → let ks = map (λ (o : Object). o .kind) os in
-    Pairs FixedAt ks xs → Pairs FixedAt ks ys → Pairs StartAgree xs ys → Starts os xs ys
+    Pairs FixedAt ks xs → Pairs FixedAt ks ys → Pairs StartAgree xs ys → Starts Close os xs ys
 starts-close [] xs ys f g h = tt
 starts-close (o ∷ os) [] ys f g h = absurd f
 starts-close (o ∷ os) (x ∷ xs) [] f g h = absurd g
@@ -141,8 +141,30 @@ pub blocks-agree : (a b : State) (t : Tree) → Related a b → TreeForm t → P
 unfolding frameRows
 blocks-agree a b t r f =
     let ks = kindsOf t in
-    frames-agree (t .objects) (startRows a ks) (startRows b ks) [] [] refl f
+    frames-agree (t .objects) (startRows a ks) (startRows b ks) f
     (starts-close (t .objects) (startRows a ks) (startRows b ks) (start-fixed a ks (r .fixed₁)) (start-fixed b ks (r .fixed₂)) (starts-agree a b ks r))
+
+-- Whatever the two retained
+
+pub blocks-same : (a b : State) (t : Tree) → TreeForm t → Pairs (Pairs Same) (frameRows a t) (frameRows b t)
+unfolding frameRows
+blocks-same a b t f = frames-same (t .objects) (startRows a (kindsOf t)) (startRows b (kindsOf t)) f
+
+start-kinds : (st : State) (ks : List Kind) → Pairs (λ k r. r .kind ≡ pos (kindCode k)) ks (startRows st ks)
+unfolding defaultRow heldRow
+start-kinds st ks = start-any (λ k r. r .kind ≡ pos (kindCode k)) st ks (λ k. refl) (λ k r e. number-is (kindCode k) (r .kind) e)
+
+pub starts-kinds : (a b : State) (ks : List Kind) → Pairs (λ x y. x .kind ≡ y .kind) (startRows a ks) (startRows b ks)
+starts-kinds a b ks = go ks (startRows a ks) (startRows b ks) (start-kinds a ks) (start-kinds b ks)
+  where
+    go : (ks : List Kind) (xs ys : List Row) → Pairs (λ k r. r .kind ≡ pos (kindCode k)) ks xs → Pairs (λ k r. r .kind ≡ pos (kindCode k)) ks ys
+        → Pairs (λ x y. x .kind ≡ y .kind) xs ys
+    go [] [] [] h k = tt
+    go [] [] (y ∷ ys) h k = absurd k
+    go [] (x ∷ xs) ys h k = absurd h
+    go (j ∷ ks) [] ys h k = absurd h
+    go (j ∷ ks) (x ∷ xs) [] h k = absurd k
+    go (j ∷ ks) (x ∷ xs) (y ∷ ys) h k = (h .0 ∙ sym (k .0), go ks xs ys (h .1) (k .1))
 
 -- What is retained is related again
 

@@ -41,11 +41,17 @@ pairs-length R [] (y ∷ ys) h = absurd h
 pairs-length R (x ∷ xs) [] h = absurd h
 pairs-length R (x ∷ xs) (y ∷ ys) h = ap suc (pairs-length R xs ys (h .1))
 
+-- where nothing is asked of retained rows
+module _ (P : Kind → Row → Type 0) where
+  nothing-asked : (rs : List Row) → All (λ r. Unit {0}) rs
+  nothing-asked [] = tt
+  nothing-asked (r ∷ rs) = (tt, nothing-asked rs)
+
+  pub start-any : (st : State) (ks : List Kind) → ((k : Kind) → P k (defaultRow (st .doubt) k))
+      → ((k : Kind) (r : Row) → is (kindCode k) (r .kind) ≡ true → P k (heldRow (st .doubt) r)) → Pairs P ks (startRows st ks)
+  start-any st ks f g = start-each (λ r. Unit {0}) P st ks f (λ k r e h. g k r e) (nothing-asked (st .rows))
+
 pub start-length : (st : State) (ks : List Kind) → length (startRows st ks) ≡ length ks
 start-length st ks =
     let any : Kind → Row → Type 0 = λ k r. Unit {0} in
-    sym (pairs-length any ks (startRows st ks) (start-each (λ r. Unit {0}) any st ks (λ k. tt) (λ k r e h. tt) (nothing-asked (st .rows))))
-  where
-    nothing-asked : (rs : List Row) → All (λ r. Unit {0}) rs
-    nothing-asked [] = tt
-    nothing-asked (r ∷ rs) = (tt, nothing-asked rs)
+    sym (pairs-length any ks (startRows st ks) (start-any any st ks (λ k. tt) (λ k r e. tt)))

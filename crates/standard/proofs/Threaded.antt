@@ -6,14 +6,14 @@ use mathlib.Core.List.{List, [], _∷_, _++_}
 use lib.Dec.{leb}
 use lib.ListN.{length}
 use Rattle.bits.proofs.Always.{All}
-use Rattle.standard.specs.Numbers.{retainedLength, startLength, blocksLength, timingsLength}
+use Rattle.standard.specs.Numbers.{retainedLength}
 use Rattle.standard.specs.Rows.{fresh}
 use Rattle.standard.specs.Calls.{Lent, decode}
 use Rattle.standard.specs.Journal.{Record, startNotice, replyTo}
 use Rattle.standard.specs.Events.{Event, starts, run, goneAstray, first, second, after, firstGets, secondGets, firstCall, secondCall, beside, Turn, events, firstTurn, secondTurn}
 use Rattle.standard.proofs.Marks.{noGap, no-gap, no-gap-since}
 use Rattle.standard.proofs.Tabled.{Enough, Holds, start-holds, enough-after, FirstRoomy, SecondRoomy, first-run, second-run}
-use Rattle.standard.proofs.OnCalls.{CallsAgree, demand3-turns}
+use Rattle.standard.proofs.OnCalls.{CallsAlike, alike, CallsAgree, demand3-turns}
 use Rattle.standard.proofs.MarksOnCalls.{FrameSettled, settled-call}
 
 -- The turns of such a programme, begun with the tables l and m
@@ -88,7 +88,14 @@ second-threaded l es b =
     let k = begun l in
     rw (second-turns k k es, turns-events k k es) at (second-run (k .retained) (turnsOf k k es) (second-roomy k k es (begun-enough l b)) (begun-holds l b))
 
--- Two decoders begin with programme start and follow one programme. Then a payload comes that both hear, and the second has not gone astray.
+-- Two decoders begin with programme start and follow one programme. Then a payload comes that both hear. What it tells by itself is the same,
+pub alike-threaded : (l m : Lent) (es : List Event) (s : List ℕ) → Roomy l → Roomy m → CallsAlike (decode s (run firstCall (begun l) es)) (decode s (run secondCall (begun m) es))
+unfolding firstCall secondCall
+alike-threaded l m es s b c =
+    alike (beside (run firstCall (begun l) es)) (beside (run secondCall (begun m) es)) (run firstCall (begun l) es .retained) (run secondCall (begun m) es .retained) s
+    (run-enough firstGets (begun l) es (begun-enough l b)) (run-enough secondGets (begun m) es (begun-enough m c)) (first-threaded l es b .good) (second-threaded m es c .good)
+
+-- and so is the rest unless the second marks it unsettled, if the second has not gone astray.
 pub demand3-threaded : (l m : Lent) (es : List Event) (s : List ℕ) → Roomy l → Roomy m → goneAstray es ≡ false
     → CallsAgree (decode s (run firstCall (begun l) es)) (decode s (run secondCall (begun m) es))
 unfolding firstCall secondCall after replyTo

@@ -22,14 +22,18 @@ onward = said 1 (blocks 1 ++ first unity (place 40 50 1 3))
 abbrev Agree : List Event → Type 0
 Agree es = CallsAgree (decode restOne (run firstCall freshTables es)) (decode restOne (run secondCall freshTables es))
 
--- the block row's x
+-- a row's x
 atX : Position → ℕ
 atX p = natAbs (p .x)
 
--- a payload that the first alone hears, without a warning,
+-- a payload that the first alone hears, without a warning: the block row, and the start row
 pub unwarned : Agree (heard movedOne ∷ missed onward ∷ []) → ⊥
 unfolding written atX
 unwarned h = let e : _≡_ {A = ℕ} 40 10 = ap atX (h .frames .blocks .0 .picture itsPosition refl) in omega arith
+
+pub unwarned-start : Agree (heard movedOne ∷ missed onward ∷ []) → ⊥
+unfolding written atX
+unwarned-start h = let e : _≡_ {A = ℕ} 40 10 = ap atX (h .frames .starts .0 .picture itsPosition refl) in omega arith
 
 -- and one behind a warning that a payload has used up
 pub warned-before : Agree (warns ofGap ∷ heard movedOne ∷ missed onward ∷ []) → ⊥

@@ -10,11 +10,11 @@ use Rattle.bits.specs.Parsed.{Refusal}
 use Rattle.bits.proofs.Always.{Ok, All}
 use Rattle.standard.specs.Numbers.{retainedLength}
 use Rattle.standard.specs.Tree.{Tree, kindsOf}
-use Rattle.standard.specs.Rows.{Row, State, noRow}
+use Rattle.standard.specs.Rows.{Row, State, fresh, noRow}
 use Rattle.standard.specs.Meaning.{startRows, frameRows, taken}
 use Rattle.standard.specs.Tables.{rowsOf, timingsOf, stateOf}
 use Rattle.standard.specs.Calls.{Lent, Done, accept, decline, decode, programmeStart}
-use Rattle.standard.specs.Events.{run, goneAstray, Beside, lend, Turn, events, firstTurn, secondTurn}
+use Rattle.standard.specs.Events.{Event, run, goneAstray, first, second, Beside, lend, Turn, events, firstTurn, secondTurn}
 use Rattle.standard.proofs.Small.{Pairs}
 use Rattle.standard.proofs.FirstUpdates.{TreeForm, first-block}
 use Rattle.standard.proofs.Agreement.{Same, RowAgree}
@@ -22,7 +22,7 @@ use Rattle.standard.proofs.ByBlock.{blocks-pairs}
 use Rattle.standard.proofs.Related.{StartAgree, nothing-agrees, starts-kinds, blocks-same, Agreement}
 use Rattle.standard.proofs.Demand3.{demand3}
 use Rattle.standard.proofs.ReadBack.{starts-written, blocks-written, timings-written}
-use Rattle.standard.proofs.Tabled.{Good, Enough, start-holds, FirstRoomy, SecondRoomy, first-run, second-run, two-calls}
+use Rattle.standard.proofs.Tabled.{Good, Enough, Holds, start-holds, FirstRoomy, SecondRoomy, first-run, second-run, two-calls}
 
 -- Two calls, by what is said of their start rows and of their block rows
 
@@ -90,14 +90,17 @@ alike b c l m s hb hc g h =
 abbrev pub CallsAgree : Done → Done → Type 0
 CallsAgree x y = CallsMeet StartAgree RowAgree x y
 
--- Two decoders begin with programme start, whatever was retained before, and follow one programme. At each event each side lends frame
--- tables of its own. Then a payload comes that both hear, and the second has not gone astray.
+-- Two tables stand for what the two decoders keep after one programme, and a payload comes that both hear. The second has not gone astray.
+pub demand3-calls : (b c : Beside) (l m : List ℤ) (es : List Event) (s : List ℕ) → Enough b → Enough c → Holds l (run first fresh es) → Holds m (run second fresh es)
+    → goneAstray es ≡ false → CallsAgree (decode s (lend b l)) (decode s (lend c m))
+demand3-calls b c l m es s hb hc x y a =
+    calls-meet StartAgree RowAgree (Agreement (stateOf l) (stateOf m)) s (rw (x .state, y .state) (demand3 es s a)) b c l m hb hc (x .good) (y .good) nothing-agrees
+    (λ t h. h .starts) (λ t h. h .blocks)
+
+-- So it is where both begin with programme start, whatever was retained before, and at each event each side lends frame tables of its own.
 pub demand3-turns : (b c : Beside) (l m : List ℤ) (ts : List Turn) (s : List ℕ) → Enough b → Enough c → All FirstRoomy ts → All SecondRoomy ts
     → leb retainedLength (length l) ≡ true → leb retainedLength (length m) ≡ true → goneAstray (events ts) ≡ false
     → CallsAgree (decode s (lend b (run firstTurn (programmeStart l .retained) ts))) (decode s (lend c (run secondTurn (programmeStart m .retained) ts)))
 demand3-turns b c l m ts s hb hc n k hl hm a =
-    let x = first-run (programmeStart l .retained) ts n (start-holds l hl) in
-    let y = second-run (programmeStart m .retained) ts k (start-holds m hm) in
-    calls-meet StartAgree RowAgree (Agreement (stateOf (run firstTurn (programmeStart l .retained) ts)) (stateOf (run secondTurn (programmeStart m .retained) ts))) s
-    (rw (x .state, y .state) (demand3 (events ts) s a)) b c (run firstTurn (programmeStart l .retained) ts) (run secondTurn (programmeStart m .retained) ts)
-    hb hc (x .good) (y .good) nothing-agrees (λ t h. h .starts) (λ t h. h .blocks)
+    demand3-calls b c (run firstTurn (programmeStart l .retained) ts) (run secondTurn (programmeStart m .retained) ts) (events ts) s hb hc
+    (first-run (programmeStart l .retained) ts n (start-holds l hl)) (second-run (programmeStart m .retained) ts k (start-holds m hm)) a

@@ -208,7 +208,7 @@ enough-after l r n =
       timings = ap (leb timingsLength) (e .timings) ∙ n .timings;
     }
 
-records-hold : (rs : List Record) (l : Lent) (st : State) → Enough (beside l) → Holds (l .retained) st → Holds (run after l rs .retained) (run stateAfter st rs)
+pub records-hold : (rs : List Record) (l : Lent) (st : State) → Enough (beside l) → Holds (l .retained) st → Holds (run after l rs .retained) (run stateAfter st rs)
 unfolding run
 records-hold [] l st n h = h
 records-hold (r ∷ rs) l st n h = records-hold rs (after l r) (stateAfter st r) (enough-after l r n) (record-holds l st r n h)

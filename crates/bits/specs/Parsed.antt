@@ -1,5 +1,5 @@
 -- What a reading gives: a value and the place after it, or a refusal. Readings in a row are written with `do`.
-use Prim.Native.Nat.{ℕ, zero, suc}
+use Prim.Native.Nat.{ℕ, zero, suc, _-_}
 use mathlib.Core.Bool.{Bool, true, false, cond}
 use mathlib.Core.List.{List, [], _∷_}
 use mathlib.Core.Option.{Option, none, some}
@@ -9,20 +9,21 @@ pub record Refusal : Type 0 where
   pub number : ℕ
   pub context : ℕ
   pub place : ℕ
+  pub missing : ℕ
 
 -- The four ways in which a payload is refused, of a context and a place.
--- A truncation is told the width that was wanted and what remained; its three numbers do not show them.
+-- A truncation is told the bits that were wanted and those that remained before the end; nothing else misses any.
 abbrev pub truncated : ℕ → ℕ → ℕ → ℕ → Refusal
-truncated c p wanted remained = record { number = 1; context = c; place = p }
+truncated c p wanted remained = record { number = 1; context = c; place = p; missing = wanted - remained }
 
 abbrev pub invalid : ℕ → ℕ → Refusal
-invalid c p = record { number = 2; context = c; place = p }
+invalid c p = record { number = 2; context = c; place = p; missing = 0 }
 
 abbrev pub limit : ℕ → ℕ → Refusal
-limit c p = record { number = 3; context = c; place = p }
+limit c p = record { number = 3; context = c; place = p; missing = 0 }
 
 abbrev pub unsupported : ℕ → ℕ → Refusal
-unsupported c p = record { number = 4; context = c; place = p }
+unsupported c p = record { number = 4; context = c; place = p; missing = 0 }
 
 pub data Parsed (A : Type 0) : Type 0 where
   got : A → ℕ → Parsed A

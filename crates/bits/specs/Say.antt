@@ -15,7 +15,7 @@ use Rattle.bits.specs.declared.Signed.{Signed}
 use Rattle.bits.specs.declared.Signed.the-variants as signed
 
 abbrev pub refusal : Refusal → paper.Refusal
-refusal r = record { number = r .number; context = r .context; place = r .place .0 }
+refusal r = record { number = r .number; context = r .context; place = r .place .0; missing = r .missing }
 
 abbrev pub said : Number → Parsed ℕ
 said (number.Value v p) = got v (p .0)

@@ -25,6 +25,7 @@ pub struct Refusal {
     pub number: u8,
     pub context: u8,
     pub place: BitPlace,
+    pub missing: usize,
 }
 
 pub enum Number {
@@ -58,14 +59,16 @@ impl ByteCount {
 }
 
 impl Refusal {
-    // Told the width wanted and what remained, so that a report of the missing bits changes nothing else.
+    // What was wanted less what remained is missing; the other three miss nothing.
     pub fn truncated(context: u8, place: BitPlace, wanted: usize, remained: usize) -> Refusal
+        requires { ⌜ remained ≤ wanted ⌝ }
         ensures { λ r. ⌜ refusal r ≡ truncated context (place .0) wanted remained ⌝ }
     {
         Refusal {
             number: 1,
             context,
             place,
+            missing: wanted - remained,
         }
     }
 
@@ -76,6 +79,7 @@ impl Refusal {
             number: 2,
             context,
             place,
+            missing: 0,
         }
     }
 
@@ -86,6 +90,7 @@ impl Refusal {
             number: 3,
             context,
             place,
+            missing: 0,
         }
     }
 
@@ -96,6 +101,7 @@ impl Refusal {
             number: 4,
             context,
             place,
+            missing: 0,
         }
     }
 }

@@ -17,7 +17,7 @@ decodedBy : Answer → Decoded
 decodedBy a =
     let v = a .verdict in
     cond (eqb (v .number) 0) (Accepted (record { objects = a .objects; blocks = a .blocks; unsettled = a .unsettled }))
-    (cond (leb (v .number) 4) (Refused (record { number = v .number; context = v .context; place = record { 0 = v .place } })) (Unread (v .number)))
+    (cond (leb (v .number) 4) (Refused (record { number = v .number; context = v .context; place = record { 0 = v .place }; missing = v .missing })) (Unread (v .number)))
 
 said-back : (d : Decoded) → InCase d → decodedBy (saidDecoded d) ≡ d
 unfolding decodedBy

@@ -64,8 +64,8 @@ lentTables =
 -- Cases
 
 pub data Case : Type 0 where
-  -- after these records: a payload, and its number, context and place
-  refuses : List Record → List ℕ → ℕ → ℕ → ℕ → Case
+  -- after these records: a payload, and its number, context, place and missing bits
+  refuses : List Record → List ℕ → ℕ → ℕ → ℕ → ℕ → Case
   -- after these records: a payload; objects, blocks, unsettled; the start rows, the block rows and the timings
   accepts : List Record → List ℕ → ℕ → ℕ → ℕ → List Row → List Row → List ℕ → Case
   -- a gain word and its dB
@@ -98,7 +98,7 @@ acceptedTables l n b start rows timings =
     }
 
 unfoldable pub answerNumbers : Answer → List ℕ
-answerNumbers a = a .verdict .number ∷ a .verdict .context ∷ a .verdict .place ∷ a .objects ∷ a .blocks ∷ a .unsettled ∷ []
+answerNumbers a = a .verdict .number ∷ a .verdict .context ∷ a .verdict .place ∷ a .objects ∷ a .blocks ∷ a .unsettled ∷ a .verdict .missing ∷ []
 
 -- the whole answer, and the first k numbers of all four lists
 unfoldable pub comesTo : ℕ → Done → List ℕ → Lent → Bool
@@ -119,12 +119,12 @@ isCount (refused r) n = false
 
 -- k: how far each list is looked at
 unfoldable pub holds : ℕ → Case → Bool
-holds k (refuses rs s n c p) =
+holds k (refuses rs s n c p m) =
     let l = run after lentTables rs in
-    comesTo k (decode s l) (n ∷ c ∷ p ∷ 0 ∷ 0 ∷ 0 ∷ []) (refusedTables l)
+    comesTo k (decode s l) (n ∷ c ∷ p ∷ 0 ∷ 0 ∷ 0 ∷ m ∷ []) (refusedTables l)
 holds k (accepts rs s n b u start rows timings) =
     let l = run after lentTables rs in
-    comesTo k (decode s l) (0 ∷ 0 ∷ 0 ∷ n ∷ b ∷ u ∷ []) (acceptedTables l n b start rows timings)
+    comesTo k (decode s l) (0 ∷ 0 ∷ 0 ∷ n ∷ b ∷ u ∷ 0 ∷ []) (acceptedTables l n b start rows timings)
 holds k (gains w z) = eqℤ (decibels w) z
 holds k (times l blocks n) = eqb (timingCall l blocks) n
 holds k (counts s n) = isCount (objectCount s (length s * 8) 2) n
@@ -142,13 +142,13 @@ headOfA = 0x01 ∷ 0x04 ∷ 0x48 ∷ 0x00 ∷ 0x06 ∷ []
 -- P1 to P11, and the two sentences after them
 unfoldable pub benchCases : List Case
 benchCases =
-    refuses [] [] 1 1 0
-    ∷ refuses [] (0x40 ∷ []) 4 1 0
-    ∷ refuses [] (0x01 ∷ 0x00 ∷ []) 2 18 16
+    refuses [] [] 1 1 0 2
+    ∷ refuses [] (0x40 ∷ []) 4 1 0 0
+    ∷ refuses [] (0x01 ∷ 0x00 ∷ []) 2 18 16 0
     ∷ accepts [] (headOfA ++ 0x00 ∷ []) 1 1 0 (plainRow (pos 3) (pos 1) (pos 0) (pos 32) (pos 31) (pos 31) (pos 0) (pos 1) ∷ []) (inactiveRow (pos 31) (pos 31) (pos 0) (pos 1) ∷ []) (0 ∷ 0 ∷ [])
-    ∷ refuses [] headOfA 1 11 23
-    ∷ refuses [] (headOfA ++ 0x01 ∷ []) 2 17 47
-    ∷ refuses [] (headOfA ++ 0x02 ∷ []) 2 16 46
+    ∷ refuses [] headOfA 1 11 23 7
+    ∷ refuses [] (headOfA ++ 0x01 ∷ []) 2 17 47 0
+    ∷ refuses [] (headOfA ++ 0x02 ∷ []) 2 16 46 0
     ∷ gains 14 (pos 1)
     ∷ gains 15 (negsuc 0)
     ∷ gains 63 (negsuc 48)
@@ -156,9 +156,9 @@ benchCases =
     ∷ times (1 ∷ 1536 ∷ []) 1 10
     ∷ times (0 ∷ 1000 ∷ 512 ∷ 0 ∷ []) 2 9
     ∷ counts (0x3f ∷ 0x80 ∷ []) 128
-    ∷ refuses [] (0x3f ∷ 0x84 ∷ []) 3 3 2
-    ∷ refuses [] (0x01 ∷ 0x04 ∷ 0x48 ∷ 0x00 ∷ 0x04 ∷ 0x00 ∷ []) 1 63 47
-    ∷ refuses [] (0x01 ∷ 0x04 ∷ 0x48 ∷ 0x00 ∷ 0x02 ∷ 0x00 ∷ []) 2 46 38
+    ∷ refuses [] (0x3f ∷ 0x84 ∷ []) 3 3 2 0
+    ∷ refuses [] (0x01 ∷ 0x04 ∷ 0x48 ∷ 0x00 ∷ 0x04 ∷ 0x00 ∷ []) 1 63 47 6
+    ∷ refuses [] (0x01 ∷ 0x04 ∷ 0x48 ∷ 0x00 ∷ 0x02 ∷ 0x00 ∷ []) 2 46 38 0
     ∷ []
 
 -- What computing opens

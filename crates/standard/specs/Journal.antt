@@ -124,13 +124,13 @@ unfoldable pub spaced : List ℕ → List ℕ
 spaced [] = []
 spaced (v ∷ vs) = 32 ∷ decimal v ++ spaced vs
 
--- `ok` with objects, blocks, unsettled; or `no` with number, context, place
+-- `ok` with objects, blocks, unsettled; or `no` with number, context, place, missing bits
 unfoldable pub answerText : Answer → List ℕ
 answerText a =
     let v = a .verdict in
     cond (eqb (v .number) accepted)
     (111 ∷ 107 ∷ spaced (a .objects ∷ a .blocks ∷ a .unsettled ∷ []))
-    (110 ∷ 111 ∷ spaced (v .number ∷ v .context ∷ v .place ∷ []))
+    (110 ∷ 111 ∷ spaced (v .number ∷ v .context ∷ v .place ∷ v .missing ∷ []))
 
 -- or `gap`, `reset`, `start`
 unfoldable pub replyText : Reply → List ℕ

@@ -164,9 +164,9 @@ query = 11
 abbrev pub index : ℕ
 index = 12
 
--- a number alone: context 0, place 0
+-- a number alone: context 0, place 0, no missing bits
 abbrev pub alone : ℕ → Refusal
-alone n = record { number = n; context = 0; place = 0 }
+alone n = record { number = n; context = 0; place = 0; missing = 0 }
 
 -- What computing opens
 

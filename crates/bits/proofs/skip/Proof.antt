@@ -1,5 +1,6 @@
 -- `bits::skip` meets its contract.
-use Prim.Native.Nat.{_+_}
+use Prim.Native.Nat.{_+_, _-_}
+use mathlib.Core.Path.{_≡_}
 use borrow.Author.Needs.{needs}
 use borrow.Author.Tests.{le-leb, lt-leb}
 use native.Mathlib.Omega.{arith}
@@ -11,7 +12,8 @@ returns : tie.Need-returns
 unfolding skip
 returns c s =
     let a = c .before .before .before .before .args in
-    rw (c .truncated .ensures, lt-leb (a .at .0 + a .count) (a .limit .0) (omega arith))
+    let nothing : a .limit .0 - a .at .0 ≡ 0 = omega arith in
+    rw (c .truncated .ensures, lt-leb (a .at .0 + a .count) (a .limit .0) (omega arith), nothing)
 
 returns-2 : tie.Need-returns-2
 unfolding skip

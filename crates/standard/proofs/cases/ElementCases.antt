@@ -6,7 +6,7 @@ use lib.IntN.{pos}
 use lib.ListN.{replicate}
 use Rattle.standard.specs.Cases.{Case, allHold}
 use Rattle.standard.specs.Contexts as context
-use Rattle.standard.proofs.cases.Writer.{Bits, _⊳_, bytes, filled, sizeGroups, element, elements, dynamicOnly, blocks, off, offRow, defaultOf, shows, fails, far, written}
+use Rattle.standard.proofs.cases.Writer.{Bits, _⊳_, bytes, filled, sizeGroups, element, elements, dynamicOnly, blocks, off, offRow, defaultOf, shows, fails, lacks, far, written}
 
 -- One Dynamic object. Without a longer element count the first element's id stands at bit 14, its size at 18, its content at 23
 
@@ -50,11 +50,11 @@ trim warp zeros mode b = element 2 (2 ⊳ warp ++ 2 ⊳ zeros ++ 2 ⊳ mode ++ b
 unfoldable pub sizeCases : List Case
 sizeCases =
     -- Truncated, where the read that is cut begins: the first group, at bit 23,
-    fails (fifteenAnd 0 (4 ⊳ 1)) 1 context.element-size 23
+    lacks (fifteenAnd 0 (4 ⊳ 1)) context.element-size 23 3
     -- the flag after the first group, at bit 56,
-    ∷ fails (bytes (dynamicOnly 1 0 ++ 1 ⊳ 0 ++ 4 ⊳ 3 ++ unknown ++ unknown ++ 4 ⊳ 1 ++ 4 ⊳ 0)) 1 context.element-size 56
+    ∷ lacks (bytes (dynamicOnly 1 0 ++ 1 ⊳ 0 ++ 4 ⊳ 3 ++ unknown ++ unknown ++ 4 ⊳ 1 ++ 4 ⊳ 0)) context.element-size 56 1
     -- and after a later one, at bit 32
-    ∷ fails (bare (4 ⊳ 1 ++ more 0 ++ more 0 ++ 4 ⊳ 0)) 1 context.element-size 32
+    ∷ lacks (bare (4 ⊳ 1 ++ more 0 ++ more 0 ++ 4 ⊳ 0)) context.element-size 32 1
     -- a group cut after the first is Limit, where the size begins: the second,
     ∷ fails (bare (4 ⊳ 1 ++ more 0)) 3 context.element-size 18
     -- and a third
@@ -62,9 +62,9 @@ sizeCases =
     -- so is a group past the fourth
     ∷ fails (bare (4 ⊳ 1 ++ more 0 ++ more 0 ++ more 0 ++ more 0 ++ last 0)) 3 context.element-size 18
     -- an element that the payload does not hold, at the bit behind its size: of one, two and four groups, the last of 69,904 bytes, the most
-    ∷ fails (bare (4 ⊳ 1 ++ last 1 ++ 8 ⊳ 0)) 1 context.element 23
-    ∷ fails (bare (4 ⊳ 1 ++ sizeGroups 17)) 1 context.element 28
-    ∷ fails (bare (4 ⊳ 1 ++ more 15 ++ more 15 ++ more 15 ++ last 15)) 1 context.element 38
+    ∷ lacks (bare (4 ⊳ 1 ++ last 1 ++ 8 ⊳ 0)) context.element 23 7
+    ∷ lacks (bare (4 ⊳ 1 ++ sizeGroups 17)) context.element 28 132
+    ∷ lacks (bare (4 ⊳ 1 ++ more 15 ++ more 15 ++ more 15 ++ last 15)) context.element 38 559230
     -- before a further group the value v becomes (v + 1) × 16: 17 bytes in two groups, 274 in three; the object element behind is found
     ∷ rests (ofElements (element 5 (replicate 135 1) ∷ rest ∷ []))
     ∷ rests (ofElements ((4 ⊳ 5 ++ more 0 ++ more 0 ++ last 1 ++ replicate (274 * 8) 1) ∷ rest ∷ []))
@@ -76,8 +76,8 @@ unfoldable pub orderCases : List Case
 orderCases =
     -- 15 and 17 more are over 31: Limit, at the count. A cut id, and a cut second part of the count, stand at their own first bit
     fails (fifteenAnd 17 []) 3 context.element-count 10
-    ∷ fails (bare []) 1 context.element-id 14
-    ∷ fails (bytes (dynamicOnly 1 0 ++ 1 ⊳ 0 ++ 4 ⊳ 15)) 1 context.extended-element-count 14
+    ∷ lacks (bare []) context.element-id 14 2
+    ∷ lacks (bytes (dynamicOnly 1 0 ++ 1 ⊳ 0 ++ 4 ⊳ 15)) context.extended-element-count 14 3
     -- 31 elements pass: an object element after 30 unknown ones; 31 of id 0, where the object element is missed at the payload's end
     ∷ rests (fifteenAnd 16 (flatten (replicate 30 unknown) ++ rest))
     ∷ fails (fifteenAnd 16 (replicate (31 * 17) 0)) 2 context.missing-object-element 552
@@ -88,7 +88,7 @@ orderCases =
     ∷ fails (ofElements (rest ∷ rest ∷ [])) 2 context.duplicate-object-element 47
     ∷ fails (ofElements (rest ∷ element 1 (7 ⊳ 0x7f) ∷ [])) 2 context.duplicate-object-element 47
     -- but that it is longer than the payload comes before
-    ∷ fails (bytes (dynamicOnly 1 0 ++ 1 ⊳ 0 ++ 4 ⊳ 2 ++ rest ++ 4 ⊳ 1 ++ last 15)) 1 context.element 56
+    ∷ lacks (bytes (dynamicOnly 1 0 ++ 1 ⊳ 0 ++ 4 ⊳ 2 ++ rest ++ 4 ⊳ 1 ++ last 15)) context.element 56 128
     -- missing: only a trim and an unknown element
     ∷ fails (ofElements (trim 0 0 0 (1 ⊳ 0) ∷ unknown ∷ [])) 2 context.missing-object-element 48
     -- an alternate id comes first in an element and must be 0, in unknown elements too
@@ -111,7 +111,7 @@ trimCases =
     ∷ fails (ofElements (trim 1 0 2 (1 ⊳ 0) ∷ rest ∷ [])) 4 context.custom-trim-configuration 28
     ∷ fails (ofElements (trim 1 0 3 (1 ⊳ 0) ∷ rest ∷ [])) 2 context.global-trim-mode 28
     -- the objects' bits behind the flag, cut by the element's end: at the first of them
-    ∷ fails (ofElements (trim 1 0 1 (1 ⊳ 1) ∷ rest ∷ [])) 1 context.per-object-trim-disable-flags 31
+    ∷ lacks (ofElements (trim 1 0 1 (1 ⊳ 1) ∷ rest ∷ [])) context.per-object-trim-disable-flags 31 1
     -- good ones, before and behind the object element, and two of them
     ∷ rests (ofElements (trim 0 0 0 (1 ⊳ 0) ∷ rest ∷ []))
     ∷ rests (ofElements (rest ∷ trim 1 0 1 (1 ⊳ 1 ++ 1 ⊳ 1) ∷ trim 0 0 1 (1 ⊳ 1 ++ 1 ⊳ 0) ∷ []))

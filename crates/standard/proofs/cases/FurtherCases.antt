@@ -8,7 +8,7 @@ use Rattle.standard.specs.Rows.{Row}
 use Rattle.standard.specs.Journal.{payload}
 use Rattle.standard.specs.Contexts as context
 use Rattle.standard.specs.Cases.{Case, allHold}
-use Rattle.standard.proofs.cases.Writer.{Bits, _⊳_, said, blocks, off, on, kept, unity, silent, level, copied, usual, priority, spot, place, to, moved, free, locked, plain, rich, groups, first, restOne, neg, row, onRow, offRow, richRow, defaultOf, shows, fails, far, written}
+use Rattle.standard.proofs.cases.Writer.{Bits, _⊳_, said, blocks, off, on, kept, unity, silent, level, copied, usual, priority, spot, place, to, moved, free, locked, plain, rich, groups, first, restOne, neg, row, onRow, offRow, richRow, defaultOf, shows, fails, lacks, far, written}
 
 -- n new objects in b blocks: what is said of them, and their rows
 unfoldable pub become : ℕ → ℕ → Bits → List Row → Case
@@ -132,7 +132,7 @@ renderCases =
     -- and no size code 3: at bit 64
     ∷ fails (said 1 (blocks 1 ++ on (unity ++ usual ++ place 10 20 1 5 ++ 3 ⊳ 0 ++ 1 ⊳ 1 ++ 2 ⊳ 3 ++ 2 ⊳ 0))) 2 context.object-size-index 64
     -- a depth, cut by the element's end: at bit 71
-    ∷ fails (said 1 (blocks 1 ++ 1 ⊳ 0 ++ unity ++ usual ++ place 10 20 1 5 ++ 3 ⊳ 0 ++ 1 ⊳ 1 ++ 2 ⊳ 2 ++ 5 ⊳ 0)) 1 context.object-depth 71
+    ∷ lacks (said 1 (blocks 1 ++ 1 ⊳ 0 ++ unity ++ usual ++ place 10 20 1 5 ++ 3 ⊳ 0 ++ 1 ⊳ 1 ++ 2 ⊳ 2 ++ 5 ⊳ 0)) context.object-depth 71 5
     ∷ []
 
 unfoldable pub furtherCases : List Case

@@ -20,7 +20,7 @@ Prints s text = printed s ≡ ascii text
 
 -- the journal of the specification
 pub worked : Prints (0x47 ∷ 0x50 ∷ 0x50 ∷ 0x4c ∷ 0x00 ∷ 0x06 ∷ 0x01 ∷ 0x04 ∷ 0x48 ∷ 0x00 ∷ 0x06 ∷ 0x00 ∷ 0x50 ∷ 0x4c ∷ 0x00 ∷ 0x00 ∷ 0x50 ∷ 0x4c ∷ 0x00 ∷ [])
-    "1 0 gap\n2 2 ok 1 1 1\n3 12 no 1 1 0\ntorn 16\n"
+    "1 0 gap\n2 2 ok 1 1 1\n3 12 no 1 1 0 2\ntorn 16\n"
 unfolding computed
 worked = refl
 

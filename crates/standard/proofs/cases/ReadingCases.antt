@@ -6,7 +6,7 @@ use lib.IntN.{pos}
 use lib.ListN.{length, replicate}
 use Rattle.standard.specs.Contexts as context
 use Rattle.standard.specs.Cases.{Case, plainRow, allHold}
-use Rattle.standard.proofs.cases.Writer.{Bits, _⊳_, bytes, element, elements, said, saidWithLfe, block, timed, blocks, off, on, unity, level, usual, place, plain, first, neg, onRow, offRow, defaultOf, inactiveOf, gives, shows, fails, farther, written}
+use Rattle.standard.proofs.cases.Writer.{Bits, _⊳_, bytes, element, elements, said, saidWithLfe, block, timed, blocks, off, on, unity, level, usual, place, plain, first, neg, onRow, offRow, defaultOf, inactiveOf, gives, shows, fails, lacks, farther, written}
 
 -- version 0, n objects, a content
 unfoldable pub assigned : ℕ → Bits → Bits
@@ -59,12 +59,12 @@ countCases =
     ∷ shows [] (bytes (2 ⊳ 0 ++ 5 ⊳ 31 ++ 7 ⊳ 0 ++ 1 ⊳ 1 ++ 1 ⊳ 0 ++ elements (element 1 (blocks 1 ++ atRest 32) ∷ []))) 32 1 0
     (replicate 32 (defaultOf 3 1)) (replicate 32 (inactiveOf 3 1))
     -- the second part cut: at its own first bit
-    ∷ fails (bytes (2 ⊳ 0 ++ 5 ⊳ 31)) 1 context.extended-object-count 7
+    ∷ lacks (bytes (2 ⊳ 0 ++ 5 ⊳ 31)) context.extended-object-count 7 6
     -- dynamic-only, and an Lfe before two Dynamic. An Lfe has basic information and no render information
     ∷ shows [] (saidWithLfe 3 (blocks 1 ++ on (level 20 ++ usual) ++ first unity (place 1 2 1 3) ++ off)) 3 1 0
     (defaultOf 0 1 ∷ defaultOf 3 1 ∷ defaultOf 3 1 ∷ [])
     (plainRow (pos 0) (pos 1) (neg 6) (pos 32) (pos 31) (pos 31) (pos 0) (pos 1) ∷ onRow (pos 0) 32 1 2 (pos 3) 1 ∷ offRow 31 31 (pos 0) 1 ∷ [])
-    ∷ fails (bytes (2 ⊳ 0 ++ 5 ⊳ 0 ++ 1 ⊳ 1)) 1 context.LFE-present-flag 8
+    ∷ lacks (bytes (2 ⊳ 0 ++ 5 ⊳ 0 ++ 1 ⊳ 1)) context.LFE-present-flag 8 1
     ∷ []
 
 -- Program assignment
@@ -107,7 +107,7 @@ assignmentCases =
     ∷ fails (bytes (assigned 3 (4 ⊳ 2 ++ 5 ⊳ 1))) 2 context.program-assignment-object-count 7
     ∷ fails (bytes (assigned 1 (4 ⊳ 0))) 2 context.program-assignment-object-count 7
     -- reserved data that is cut comes before this, at its first bit
-    ∷ fails (bytes (assigned 1 (4 ⊳ 3 ++ 5 ⊳ 1 ++ 4 ⊳ 15))) 1 context.program-assignment-reserved-data 21
+    ∷ lacks (bytes (assigned 1 (4 ⊳ 3 ++ 5 ⊳ 1 ++ 4 ⊳ 15))) context.program-assignment-reserved-data 21 125
     ∷ []
 
 -- Timings
@@ -151,7 +151,7 @@ tableDataCases =
     3 1 0
     (defaultOf 3 1 ∷ defaultOf 3 1 ∷ defaultOf 3 1 ∷ []) (offRow 31 31 (pos 0) 1 ∷ onRow (pos 0) 32 1 2 (pos 3) 1 ∷ onRow (pos 0) 32 4 5 (pos 6) 1 ∷ [])
     -- cut by the element's end: where the run begins
-    ∷ fails (said 1 (blocks 1 ++ 1 ⊳ 1 ++ 1 ⊳ 1 ++ 4 ⊳ 15)) 1 context.additional-table-data 44
+    ∷ lacks (said 1 (blocks 1 ++ 1 ⊳ 1 ++ 1 ⊳ 1 ++ 4 ⊳ 15)) context.additional-table-data 44 125
     ∷ []
 
 unfoldable pub readingCases : List Case

@@ -132,7 +132,7 @@ unfolding written
 long-payload l h k = too-long (replicate (payloadLimit + 1) 0) l h k refl
 
 -- the longest is read
-pub longest-payload : T (allHold far (refuses [] (replicate payloadLimit 0) 2 context.program-assignment-object-count 7 ∷ []))
+pub longest-payload : T (allHold far (refuses [] (replicate payloadLimit 0) 2 context.program-assignment-object-count 7 0 ∷ []))
 unfolding written
 longest-payload = tt
 

@@ -210,9 +210,13 @@ gives rs s n b u start rows timings = accepts (startNotice ∷ rs) s n b u start
 unfoldable pub shows : List Record → List ℕ → ℕ → ℕ → ℕ → List Row → List Row → Case
 shows rs s n b u start rows = gives rs s n b u start rows (replicate (2 * b) 0)
 
--- a payload; number, context, place
+-- a payload that misses nothing; number, context, place
 unfoldable pub fails : List ℕ → ℕ → ℕ → ℕ → Case
-fails s n c p = refuses (startNotice ∷ []) s n c p
+fails s n c p = refuses (startNotice ∷ []) s n c p 0
+
+-- a payload that is cut; context, place, missing bits
+unfoldable pub lacks : List ℕ → ℕ → ℕ → ℕ → Case
+lacks s c p m = refuses (startNotice ∷ []) s 1 c p m
 
 -- how far cases look into each list: beyond the rows that they write, of 8 and of 32 objects or blocks
 
@@ -224,7 +228,7 @@ farther = 33 * rowWidth
 
 -- Everything opened, for the tables of cases: `unfolding written`
 unfoldable pub written : Unit {0}
-unfolding computed cases.computed flatten _⊳_ bytesFrom bytes filled sizeGroups element elements dynamicOnly said saidWithLfe block timed blocks off on kept unity silent level copied usual priority spot place to moved free locked plain rich groups first gives shows fails
+unfolding computed cases.computed flatten _⊳_ bytesFrom bytes filled sizeGroups element elements dynamicOnly said saidWithLfe block timed blocks off on kept unity silent level copied usual priority spot place to moved free locked plain rich groups first gives shows fails lacks
 written = tt
 
 -- at rest it is payload A

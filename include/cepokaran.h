@@ -16,8 +16,9 @@
  *     and nobody else reads or writes it meanwhile. What it only reads does not change meanwhile.
  *
  * A call returns one number of `enum cepokaran_number`; 0 is accepted. On any other number every
- * further number and float that it hands back is 0, and a gain is silence. Only decode's context and
- * place say more. A table may be longer than needed: what lies behind the needed length never changes.
+ * further number and float that it hands back is 0, and a gain is silence. Only decode's context, place
+ * and missing bits say more. A table may be longer than needed: what lies behind the needed length never
+ * changes.
  *
  * examples/c/rack_loop.c is a rack's loop over these calls.
  */
@@ -147,7 +148,8 @@ enum {
     CEPOKARAN_OBJECTS = 2,  /* accepted: how many objects, 1 to 128 */
     CEPOKARAN_BLOCKS = 3,   /* accepted: how many blocks, 1 to 8 */
     CEPOKARAN_UNSETTLED = 4,/* accepted: how many rows of the last block have mark 0 */
-    CEPOKARAN_ANSWER_LENGTH = 5
+    CEPOKARAN_MISSING = 5,  /* refused by 1: how many bits were missing, 1 to 559,232; else 0 */
+    CEPOKARAN_ANSWER_LENGTH = 6
 };
 
 /*
@@ -156,6 +158,14 @@ enum {
  * Refused in this order, and no table changes: ROOM (any of the four tables), FORM (retained), SIZE.
  * Then the payload is read. Refused by TRUNCATED, INVALID, LIMIT or UNSUPPORTED: context and place
  * say where; retained stays; start, blocks and timings become 0 over their needed lengths.
+ *
+ * TRUNCATED also tells how many bits were missing: what the field, the skipped run or the element at the
+ * place needs, less what was left of it. Which end cut it, its context says:
+ *
+ *   1 to 34   The payload's own end: its tail is lost, or it was cut in transport. With so many bits more
+ *             what was cut is there; with fewer it is cut at the same place, by as many bits less.
+ *   35 to 86  An element's end: no tail would help, since bytes behind the payload change nothing. The
+ *             element says more than its size holds: bits of it were changed, or written wrong.
  *
  * Accepted: the frame has objects and blocks. Written are `objects` rows of start (how each object
  * stands before the first block), blocks * objects rows of blocks, and 2 * blocks numbers of timings;

@@ -131,8 +131,8 @@ static void play(const struct frame *frame)
                                   CEPOKARAN_TIMINGS_LENGTH, answer);
     if (number != CEPOKARAN_ACCEPTED) {
         /* What was retained stands: the rack goes on showing the rows before. */
-        printf("  refused by %" PRIu32 ", context %" PRIu32 ", bit %" PRIu32 "\n", number,
-               answer[CEPOKARAN_CONTEXT], answer[CEPOKARAN_PLACE]);
+        printf("  refused by %" PRIu32 ", context %" PRIu32 ", bit %" PRIu32 ", missing %" PRIu32 "\n", number,
+               answer[CEPOKARAN_CONTEXT], answer[CEPOKARAN_PLACE], answer[CEPOKARAN_MISSING]);
         return;
     }
     uint32_t objects = answer[CEPOKARAN_OBJECTS], block_count = answer[CEPOKARAN_BLOCKS];

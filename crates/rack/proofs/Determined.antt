@@ -17,7 +17,7 @@ use Rattle.rack.proofs.oamd_ramp.Reads as ramp
 use Rattle.rack.proofs.oamd_row.Reads as row
 use Rattle.rack.proofs.oamd_shown.Reads as shown
 
--- Decode: the number, the five answers, and the four tables
+-- Decode: the number, the six answers, and the four tables
 
 pub record Decoding : Type 0 where
   pub number : ℕ

@@ -11,9 +11,9 @@ use Rattle.standard.specs.Ramps.{Choice}
 use Rattle.standard.specs.Shown.{Gain, silent, decibels, Shown}
 use Rattle.standard.specs.Calls.{Answer, Done, RampAnswer, ShownAnswer}
 
--- context, place, objects, blocks, unsettled
+-- context, place, objects, blocks, unsettled, missing
 abbrev pub answerNumbers : Answer → List ℕ
-answerNumbers a = a .verdict .context ∷ a .verdict .place ∷ a .objects ∷ a .blocks ∷ a .unsettled ∷ []
+answerNumbers a = a .verdict .context ∷ a .verdict .place ∷ a .objects ∷ a .blocks ∷ a .unsettled ∷ a .verdict .missing ∷ []
 
 pub record DecodeLeft (d : Done) (n : ℕ) (answer : List ℕ) (r s b : List ℤ) (t : List ℕ) : Type 0 where
   pub number : n ≡ d .answer .verdict .number

@@ -9,7 +9,7 @@ use shown::view::Gain;
 use shown::view::View;
 use timing::ramps::Ramp;
 
-// A decoding: the answer is context, place, objects, blocks, unsettled.
+// A decoding: the answer is context, place, objects, blocks, unsettled, missing.
 #[no_mangle]
 pub extern "C" fn oamd_decode(
     payload: &[u8],
@@ -17,21 +17,28 @@ pub extern "C" fn oamd_decode(
     start: &mut [i16],
     blocks: &mut [i16],
     timings: &mut [u16],
-    answer: &mut [u32; 5],
+    answer: &mut [u32; 6],
 ) -> u32
     ensures { λ r. ⌜ DecodeLeft (calls.decode (now (payload .entry)) (lent (now (retained .entry)) (now (start .entry)) (now (blocks .entry)) (now (timings .entry)))) r (now (answer .exit)) (now (retained .exit)) (now (start .exit)) (now (blocks .exit)) (now (timings .exit)) ⌝ }
 {
     match oamd::decoder::decode(payload, retained, start, blocks, timings) {
         Decoded::Accepted(frame) => {
-            *answer = [0, 0, frame.objects, frame.blocks, frame.unsettled];
+            *answer = [0, 0, frame.objects, frame.blocks, frame.unsettled, 0];
             0
         }
         Decoded::Refused(refusal) => {
-            *answer = [refusal.context as u32, refusal.place.0 as u32, 0, 0, 0];
+            *answer = [
+                refusal.context as u32,
+                refusal.place.0 as u32,
+                0,
+                0,
+                0,
+                refusal.missing as u32,
+            ];
             refusal.number as u32
         }
         Decoded::Unread(number) => {
-            *answer = [0, 0, 0, 0, 0];
+            *answer = [0, 0, 0, 0, 0, 0];
             number
         }
     }

@@ -42,10 +42,10 @@ assigned n h =
     after _ _ λ at. after _ _ λ only.
     choose only (only-form n h) (after _ _ λ ks. required (eqb (length ks) n) _ λ e. given _ (eqb-true (length ks) n e))
 
-abbrev Some : List Kind → Type 0
+abbrev pub Some : List Kind → Type 0
 Some ks = Counted (length ks)
 
-kinds-counted : Always Some (objectCount >>= assignment)
+pub kinds-counted : Always Some (objectCount >>= assignment)
 kinds-counted = bind _ count-form λ n h. weaken (assigned n (h .0)) λ ks e. let l = h .0 in let u = h .1 in (omega arith, omega arith)
 
 -- Objects

@@ -22,7 +22,7 @@ use Rattle.standard.proofs.Endings.{Fit, ends}
 
 -- 0: what lies behind the rows and timings of the frame, and behind the retained numbers, is as it was
 pub record Accepted (l : Lent) (d : Done) : Type 0 where
-  pub verdict : d .answer .verdict ≡ alone accepted  -- context 0, place 0
+  pub verdict : d .answer .verdict ≡ alone accepted  -- context 0, place 0, missing 0
   pub retained : drop retainedLength (d .lent .retained) ≡ drop retainedLength (l .retained)
   pub start : drop (d .answer .objects * rowWidth) (d .lent .start) ≡ drop (d .answer .objects * rowWidth) (l .start)
   pub blocks : drop (d .answer .blocks * d .answer .objects * rowWidth) (d .lent .blocks) ≡ drop (d .answer .blocks * d .answer .objects * rowWidth) (l .blocks)
@@ -34,6 +34,8 @@ pub record Refused (s : List ℕ) (l : Lent) (d : Done) : Type 0 where
   pub context-from : 1 ≤ d .answer .verdict .context
   pub context-to : d .answer .verdict .context ≤ contextCount
   pub place : d .answer .verdict .place ≤ length s * 8
+  pub missing : d .answer .verdict .number ≡ 1 → 1 ≤ d .answer .verdict .missing
+  pub whole : (d .answer .verdict .number ≡ 1 → ⊥) → d .answer .verdict .missing ≡ 0
   pub long : length s ≤ payloadLimit
   pub retained : d .lent .retained ≡ l .retained
   pub start : d .lent .start ≡ over (replicate startLength (pos 0)) (l .start)
@@ -42,7 +44,7 @@ pub record Refused (s : List ℕ) (l : Lent) (d : Done) : Type 0 where
 
 -- 5 to 7: refused before the payload is read; nothing changes
 pub record Unread (l : Lent) (d : Done) : Type 0 where
-  pub answer : d .answer ≡ refusal (alone (d .answer .verdict .number))  -- context 0, place 0
+  pub answer : d .answer ≡ refusal (alone (d .answer .verdict .number))  -- context 0, place 0, missing 0
   pub lent : d .lent ≡ l
 
 pub record Outcome (s : List ℕ) (l : Lent) (d : Done) : Type 0 where
@@ -86,6 +88,8 @@ outcome s l =
         context-from = leb-true _ _ (and-left (leb 1 (r .context)) _ (b .context));
         context-to = leb-true _ _ (and-right (leb 1 (r .context)) _ (b .context));
         place = b .place;
+        missing = b .cut;
+        whole = b .uncut;
         long = h .size;
         retained = refl;
         start = refl;

@@ -8,3 +8,4 @@ pub mod ParsedLaws
 pub mod ReadCases
 pub mod Signs
 pub mod Tells
+pub mod Growing

@@ -51,7 +51,7 @@ record Stays {A : Type 0} (e : ℕ) (m : Parser A) : Type 0 where
   stays : (s : List ℕ) (p : ℕ) → p ≤ e → Fine e p (m s e p)
 
 -- what an element holds
-abbrev Inside : Bool → List Kind → ℕ → ℕ → Option Tree → Parser (Option Tree)
+abbrev pub Inside : Bool → List Kind → ℕ → ℕ → Option Tree → Parser (Option Tree)
 Inside alternated ks at id o = alternate alternated >> (flag context.discard-unknown-element-flag >> content ks at id o)
 
 -- One rule for each way in which readings are put together

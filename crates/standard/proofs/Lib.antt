@@ -18,8 +18,11 @@ pub mod ByBlock
 pub mod ReadBack
 pub mod Bounds
 pub mod Endings
+pub mod Missing
 pub mod Outcomes
 pub mod Lengths
+pub mod Longer
+pub mod LongerPayload
 pub mod Tabled
 pub mod OnCalls
 pub mod MarksOnCalls

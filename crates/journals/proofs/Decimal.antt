@@ -1,6 +1,6 @@
 -- A number's text: all digits but the last, and the last; how long it is; numbers behind spaces.
 use Prim.Native.Nat.{ℕ, zero, suc, _+_, _/_, _%_, _^_, _≤_, _<_}
-use mathlib.Core.Path.{_≡_, refl, sym, ap, _∙_}
+use mathlib.Core.Path.{_≡_, refl, ap, _∙_}
 use mathlib.Core.Bool.{Bool, true, false}
 use mathlib.Core.Logic.{_⊎_, inl, inr, ⊎-elim}
 use mathlib.Core.List.{List, [], _∷_, _++_, append-assoc, append-nil}
@@ -88,11 +88,7 @@ pub spaced-one : (v : ℕ) → spaced (v ∷ []) ≡ 32 ∷ decimal v
 unfolding spaced
 spaced-one v = simp append-nil
 
-spaced-more : (v : ℕ) (vs : List ℕ) → spaced (v ∷ vs) ≡ spaced (v ∷ []) ++ spaced vs
+pub spaced-append : (us vs : List ℕ) → spaced (us ++ vs) ≡ spaced us ++ spaced vs
 unfolding spaced
-spaced-more v vs = ap (λ (l : List ℕ). l ++ spaced vs) (sym (spaced-one v))
-
-pub spaced-three : (a b c : ℕ) → spaced (a ∷ b ∷ c ∷ []) ≡ spaced (a ∷ []) ++ spaced (b ∷ []) ++ spaced (c ∷ [])
-spaced-three a b c =
-    spaced-more a (b ∷ c ∷ []) ∙ ap (λ (l : List ℕ). spaced (a ∷ []) ++ l) (spaced-more b (c ∷ []))
-    ∙ sym (append-assoc (spaced (a ∷ [])) (spaced (b ∷ [])) (spaced (c ∷ [])))
+spaced-append [] vs = refl
+spaced-append (u ∷ us) vs = rw (spaced-append us vs, append-assoc)

@@ -53,6 +53,7 @@ replyBy (paper.answered a) =
       number = a .verdict .number;
       context = a .verdict .context;
       place = a .verdict .place;
+      missing = a .verdict .missing;
       objects = a .objects;
       blocks = a .blocks;
       unsettled = a .unsettled;

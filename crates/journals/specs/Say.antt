@@ -29,7 +29,7 @@ saidFound s found.Unknown = unknown
 abbrev pub saidAnswer : Answer → calls.Answer
 saidAnswer a =
     record {
-      verdict = record { number = a .number; context = a .context; place = a .place };
+      verdict = record { number = a .number; context = a .context; place = a .place; missing = a .missing };
       objects = a .objects;
       blocks = a .blocks;
       unsettled = a .unsettled;

@@ -14,9 +14,13 @@ pub record Puts (n : ℕ) (l : List ℕ) (at : ℕ) (text : List ℕ) (next : �
   pub place : next ≡ at + length text
   pub short : length text ≤ n
 
--- no line is longer
+-- no reply is longer, with its space: a word of two letters and four numbers
+abbrev pub replyLength : ℕ
+replyLength = 87
+
+-- and no line
 abbrev pub lineLength : ℕ
-lineLength = 108
+lineLength = 129
 
 -- `fault` offset: the input could not be read on
 abbrev pub faultLine : ℕ → List ℕ

@@ -4,7 +4,7 @@ ghost use lib.ListN.{length};
 ghost use mathlib.Core.List.{[], _∷_, _++_};
 ghost use Rattle.standard.specs.Journal.{spaced, answerText, replyText, line};
 ghost use Rattle.journals.specs.Say.{saidAnswer, saidReply};
-ghost use Rattle.journals.specs.Texts.{Puts, lineLength, endingText};
+ghost use Rattle.journals.specs.Texts.{Puts, replyLength, lineLength, endingText};
 use crate::replies::Answer;
 use crate::replies::Reply;
 use crate::texts::put_decimal;
@@ -13,8 +13,8 @@ use crate::texts::put_three;
 use crate::texts::put_word;
 use rows::numbers::ACCEPTED;
 
-// No line is longer: five numbers of 20 digits at most, five spaces, a word of two letters and the newline.
-pub const LINE_LENGTH: usize = 108;
+// No line is longer: six numbers of 20 digits at most, six spaces, a word of two letters and the newline.
+pub const LINE_LENGTH: usize = 129;
 
 // The specification's endings; in a fault the input could not be read on from this offset.
 pub enum Ending {
@@ -47,8 +47,8 @@ pub fn put_last(out: &mut [u8; LINE_LENGTH], records: u64, ending: Ending) -> us
 }
 
 fn put_reply(out: &mut [u8], at: usize, reply: Reply) -> usize
-    requires { ⌜ at + 66 ≤ length (now out) ⌝ }
-    ensures { λ r. ⌜ Puts 66 (now (out .entry)) at (32 ∷ replyText (saidReply reply)) r (now (out .exit)) ⌝ }
+    requires { ⌜ at + replyLength ≤ length (now out) ⌝ }
+    ensures { λ r. ⌜ Puts replyLength (now (out .entry)) at (32 ∷ replyText (saidReply reply)) r (now (out .exit)) ⌝ }
 {
     match reply {
         Reply::Answered(answer) => put_answer(out, at, answer),
@@ -59,15 +59,16 @@ fn put_reply(out: &mut [u8], at: usize, reply: Reply) -> usize
 }
 
 fn put_answer(out: &mut [u8], at: usize, answer: Answer) -> usize
-    requires { ⌜ at + 66 ≤ length (now out) ⌝ }
-    ensures { λ r. ⌜ Puts 66 (now (out .entry)) at (32 ∷ answerText (saidAnswer answer)) r (now (out .exit)) ⌝ }
+    requires { ⌜ at + replyLength ≤ length (now out) ⌝ }
+    ensures { λ r. ⌜ Puts replyLength (now (out .entry)) at (32 ∷ answerText (saidAnswer answer)) r (now (out .exit)) ⌝ }
 {
     if answer.number == ACCEPTED as u64 {
         let said = put_word(out, at, b" ok");
         return put_three(out, said, answer.objects, answer.blocks, answer.unsettled);
     }
     let said = put_word(out, at, b" no");
-    put_three(out, said, answer.number, answer.context, answer.place)
+    let placed = put_three(out, said, answer.number, answer.context, answer.place);
+    put_spaced(out, placed, answer.missing)
 }
 
 // A word and a number are a line.

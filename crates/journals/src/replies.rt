@@ -1,11 +1,14 @@
 // Records to replies: a payload is decoded into the lent tables, and a notice changes the retained one.
 ghost use mathlib.Core.Path.{_≡_};
+ghost use Rattle.bits.specs.Say as bits;
+ghost use Rattle.standard.specs.Numbers.{alone};
 ghost use Rattle.standard.specs.Calls as calls;
 ghost use Rattle.standard.specs.Journal as paper;
 ghost use Rattle.oamd.specs.Promises.{lent};
 ghost use Rattle.journals.specs.Say.{saidRecord, saidAnswer};
 ghost use Rattle.journals.specs.Promises.{Answers, Left};
 use crate::records::Kind;
+use bits::Refusal;
 use oamd::decoder::Decoded;
 use oamd::decoder::decode;
 use rows::calls::gap;
@@ -18,6 +21,7 @@ pub struct Answer {
     pub number: u64,
     pub context: u64,
     pub place: u64,
+    pub missing: u64,
     pub objects: u64,
     pub blocks: u64,
     pub unsettled: u64,
@@ -58,7 +62,6 @@ pub fn reply_to(
     }
 }
 
-// What was not accepted has no counts, and what was not read no place.
 fn answer_to(
     payload: &[u8],
     retained: &mut [i16],
@@ -73,26 +76,40 @@ fn answer_to(
             number: ACCEPTED as u64,
             context: 0,
             place: 0,
+            missing: 0,
             objects: frame.objects as u64,
             blocks: frame.blocks as u64,
             unsettled: frame.unsettled as u64,
         },
-        Decoded::Refused(refusal) => refused(
-            refusal.number as u64,
-            refusal.context as u64,
-            refusal.place.0 as u64,
-        ),
-        Decoded::Unread(number) => refused(number as u64, 0, 0),
+        Decoded::Refused(refusal) => refused(refusal),
+        Decoded::Unread(number) => unread(number),
     }
 }
 
-fn refused(number: u64, context: u64, place: u64) -> Answer
-    ensures { λ r. ⌜ saidAnswer r ≡ calls.refusal (record { number = number; context = context; place = place }) ⌝ }
+// What was not accepted has no counts.
+fn refused(refusal: Refusal) -> Answer
+    ensures { λ r. ⌜ saidAnswer r ≡ calls.refusal (bits.refusal refusal) ⌝ }
 {
     Answer {
-        number,
-        context,
-        place,
+        number: refusal.number as u64,
+        context: refusal.context as u64,
+        place: refusal.place.0 as u64,
+        missing: refusal.missing as u64,
+        objects: 0,
+        blocks: 0,
+        unsettled: 0,
+    }
+}
+
+// What was not read has its number alone.
+fn unread(number: u32) -> Answer
+    ensures { λ r. ⌜ saidAnswer r ≡ calls.refusal (alone number) ⌝ }
+{
+    Answer {
+        number: number as u64,
+        context: 0,
+        place: 0,
+        missing: 0,
         objects: 0,
         blocks: 0,
         unsettled: 0,

@@ -15,13 +15,13 @@ returns c =
 
 returns-2 : tie.Need-returns-2
 returns-2 c =
-    let f = c .before .before .before .before in
+    let f = c .before .before in
     decoding-told (decoded (f .before .before) .decode .ensures) (f .refusal .given .1) (c .refused .ensures)
 
 returns-3 : tie.Need-returns-3
 returns-3 c =
     let f = c .before .before in
-    decoding-told (decoded (f .before .before) .decode .ensures) (f .number .given .1) (c .refused2 .ensures)
+    decoding-told (decoded (f .before .before) .decode .ensures) (f .number .given .1) (c .unread .ensures)
 
 pub answer-to-spec : {M : Type 1} → statement M
 answer-to-spec =
@@ -34,10 +34,7 @@ answer-to-spec =
     (λ c. search needs)
     (λ c. search needs)
     (λ c. search needs)
-    (λ c. search needs)
-    (λ c. search needs)
     (λ c κs. search needs)
-    (λ c. search needs)
     (λ c. search needs)
     (λ c κs. search needs)
     (λ c. search needs)

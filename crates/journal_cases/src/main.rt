@@ -58,6 +58,18 @@ fn doubts() {
     );
 }
 
+// Cut payloads: as Truncated they miss bits, as Limit none.
+fn cuts() {
+    show(
+        b"a payload without its last byte\n",
+        b"PL\x00\x05\x01\x04\x48\x00\x06",
+    );
+    show(
+        b"a size cut behind its first group\n",
+        b"PL\x00\x03\x01\x04\x42",
+    );
+}
+
 // Payloads of zeros, by the two bytes of their length.
 fn lengths() {
     let mut bytes = [0u8; WITH_GAP];
@@ -81,5 +93,6 @@ fn lengths() {
 fn main() {
     endings();
     doubts();
+    cuts();
     lengths();
 }

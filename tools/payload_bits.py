@@ -174,7 +174,7 @@ def object_element(assignment, objects, blocks):
 
 
 class Payload:
-    """A payload that is accepted: its bytes, and where the object element's content begins."""
+    """A payload that is accepted: its bytes, and where the object element's content begins and ends."""
 
     def __init__(self, assignment, objects):
         self.assignment, self.objects = assignment, objects
@@ -191,4 +191,5 @@ class Payload:
         write_size(bits, size)
         self.content = len(bits.text)
         bits.text += element.text + "0" * (8 * size - len(element.text))
+        self.end = len(bits.text)
         self.bytes = bits.filled()

@@ -21,6 +21,7 @@ pub struct Refusal {
     pub number: u8,
     pub context: u8,
     pub place: usize,
+    pub missing: usize,
 }
 
 #[derive(Clone, Debug, PartialEq, Eq)]
@@ -45,6 +46,7 @@ impl Oracle {
                 number: SIZE,
                 context: 0,
                 place: 0,
+                missing: 0,
             });
         }
         self.decoder
@@ -96,11 +98,11 @@ fn refusal(error: &OamdParseError, payload: &[u8]) -> Refusal {
     };
     let context = context::number(text);
     let notes = notes_of(payload, error);
-    let place = place::place(number, context, &notes, payload.len() * 8);
     Refusal {
         number,
         context,
-        place,
+        place: place::place(number, context, &notes, payload.len() * 8),
+        missing: place::missing(number, &notes),
     }
 }
 

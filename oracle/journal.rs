@@ -115,8 +115,8 @@ fn print_answer(oracle: &mut Oracle, payload: &[u8], out: &mut impl Write) -> io
             );
             writeln!(
                 out,
-                "no {} {} {}",
-                refusal.number, refusal.context, refusal.place
+                "no {} {} {} {}",
+                refusal.number, refusal.context, refusal.place, refusal.missing
             )
         }
     }

@@ -7,7 +7,7 @@ use crate::marks::{Marks, Mistake};
 use crate::orders::Order;
 use crate::tables::{COUNT, DOUBT, KIND, MARK, RETAINED_HEAD, RETAINED_LENGTH, ROW_WIDTH};
 
-/// The number given back and the five numbers of the answer.
+/// The number given back and the six numbers of the answer.
 #[derive(Clone, Copy, Debug, Default, PartialEq, Eq)]
 pub struct Said {
     pub number: u32,
@@ -16,6 +16,7 @@ pub struct Said {
     pub objects: u32,
     pub blocks: u32,
     pub unsettled: u32,
+    pub missing: u32,
 }
 
 impl Said {
@@ -132,6 +133,7 @@ fn refused(refusal: Refusal) -> Said {
         number: u32::from(refusal.number),
         context: u32::from(refusal.context),
         place: refusal.place as u32,
+        missing: refusal.missing as u32,
         ..Said::default()
     }
 }

@@ -1,7 +1,8 @@
 //! The oracle's program. Its modes:
 //!
 //! `journal`: answers the journal on standard input, record by record, in lines:
-//!     no NUMBER CONTEXT PLACE   a payload refused; the decoder keeps what it had
+//!     no NUMBER CONTEXT PLACE MISSING
+//!                               a payload refused; the decoder keeps what it had
 //!     ok OBJECTS BLOCKS         a payload accepted, and then
 //!     kinds KIND ..             0 Lfe, 1 Bed, 2 Isf, 3 Dynamic
 //!     timings START RAMP ..     of each block
@@ -12,7 +13,7 @@
 //!     reset                     the same, since the Rust has no doubt
 //!     gap                       nothing is done, for the same reason
 //! and last `end RECORDS`, `torn OFFSET` or `mark OFFSET`. A row is the specification's row without
-//! its mark. A payload over 16,384 bytes is not decoded: `no 7 0 0`.
+//! its mark. A payload over 16,384 bytes is not decoded: `no 7 0 0 0`.
 //!
 //! `timing`: answers each line BLOCKS START RAMP .. SAMPLE of standard input by
 //!     NUMBER FROM TO BITS       the timing test's number (0, 8, 9, 10), the rows chosen (0 the

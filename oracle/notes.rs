@@ -1,4 +1,4 @@
-//! What the noting decoder tried to read or skip, in order.
+//! What the noting decoder tried to read, to skip or to take in as an element, in order.
 
 use crate::context;
 use std::cell::RefCell;
@@ -7,6 +7,8 @@ use std::cell::RefCell;
 pub struct Note {
     pub place: usize,
     pub width: usize,
+    /// The end that the Rust held it against, as a bit place.
+    limit: usize,
     context: &'static str,
 }
 
@@ -17,6 +19,13 @@ impl Note {
 
     pub fn context(&self) -> u8 {
         context::number(self.context)
+    }
+
+    /// The bits that are wanted and do not remain, of an attempt that was cut.
+    pub fn missing(&self) -> usize {
+        let remained = self.limit - self.place;
+        assert!(remained < self.width, "the end cuts it");
+        self.width - remained
     }
 
     /// The number that was read, of a field and not of a skipped run.
@@ -31,12 +40,13 @@ thread_local! {
     static NOTES: RefCell<Vec<Note>> = const { RefCell::new(Vec::new()) };
 }
 
-/// Called by the noting decoder at the head of each read and skip.
-pub fn note(place: usize, width: usize, context: &'static str) {
+/// Called by the noting decoder at the head of each read and skip, and where it tests an element's end.
+pub fn note(place: usize, width: usize, limit: usize, context: &'static str) {
     NOTES.with(|notes| {
         notes.borrow_mut().push(Note {
             place,
             width,
+            limit,
             context,
         })
     });

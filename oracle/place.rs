@@ -1,4 +1,4 @@
-//! The specification's place of a refusal, from what the noting decoder tried to read.
+//! The specification's place and missing bits of a refusal, from what the noting decoder tried to read.
 
 use crate::answer::{INVALID, LIMIT, TRUNCATED, UNSUPPORTED};
 use crate::context as c;
@@ -7,9 +7,7 @@ use crate::notes::Note;
 /// The bit place; `end` is the payload's length in bits.
 pub fn place(number: u8, context: u8, notes: &[Note], end: usize) -> usize {
     match (number, context) {
-        // The size was read whole, so the bit after it follows the last note.
-        (TRUNCATED, c::ELEMENT) => last(notes).place + last(notes).width,
-        // The last attempt is the cut one: a field, an extension, a more flag or a skipped run.
+        // The last attempt is the cut one: a field, an extension, a more flag, a skipped run or an element.
         (TRUNCATED, _) => last(notes).place,
         (LIMIT, c::ELEMENT_SIZE) => first_size_group(notes),
         (INVALID, c::DUPLICATE_OBJECT_ELEMENT) => last_of(notes, c::ELEMENT_ID).place,
@@ -24,6 +22,14 @@ pub fn place(number: u8, context: u8, notes: &[Note], end: usize) -> usize {
         // The tested field bears the refusal's own context: of a version or a count its first part,
         // of padding the bit that was 1.
         _ => last_of(notes, context).place,
+    }
+}
+
+/// A cut attempt alone misses bits: what it wanted, less what the Rust's own limit left it.
+pub fn missing(number: u8, notes: &[Note]) -> usize {
+    match number {
+        TRUNCATED => last(notes).missing(),
+        _ => 0,
     }
 }
 

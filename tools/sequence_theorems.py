@@ -37,7 +37,7 @@ pub record Frame : Type 0 where
   pub updates : List ℤ
 
 pub data Verdict : Type 0 where
-  refuses : ℕ → ℕ → ℕ → Verdict  -- number, context, place
+  refuses : ℕ → ℕ → ℕ → ℕ → Verdict  -- number, context, place, missing bits
   accepts : Frame → Verdict
 
 pub data Said : Type 0 where
@@ -50,13 +50,16 @@ unfoldable pub unmarked : ℕ → List ℤ → List ℤ
 unmarked zero l = []
 unmarked (suc n) l = take markAt l ++ unmarked n (drop rowWidth l)
 
+-- number, context, place, objects, blocks, missing bits; the unsettled count, which is not the oracle's, is left out
 unfoldable pub numbersOf : Done → List ℕ
-numbersOf d = take 5 (answerNumbers (d .answer))
+numbersOf d =
+    let numbers = answerNumbers (d .answer) in
+    take 5 numbers ++ drop 6 numbers
 
 unfoldable pub isVerdict : Verdict → Done → Bool
-isVerdict (refuses n c p) d = same (numbersOf d) (n ∷ c ∷ p ∷ 0 ∷ 0 ∷ [])
+isVerdict (refuses n c p m) d = same (numbersOf d) (n ∷ c ∷ p ∷ 0 ∷ 0 ∷ m ∷ [])
 isVerdict (accepts f) d =
-    same (numbersOf d) (0 ∷ 0 ∷ 0 ∷ f .objects ∷ f .blocks ∷ [])
+    same (numbersOf d) (0 ∷ 0 ∷ 0 ∷ f .objects ∷ f .blocks ∷ 0 ∷ [])
     && same (take (2 * f .blocks) (d .lent .timings)) (f .timings)
     && sameℤ (unmarked (f .objects) (d .lent .start)) (f .start)
     && sameℤ (unmarked (f .objects * f .blocks) (d .lent .blocks)) (f .updates)

@@ -51,7 +51,7 @@ const CUT_IN_ELEMENTS: [(u8, u8); 4] = [
 ];
 const TRIM_FLAGS: u8 = c::PER_OBJECT_TRIM_DISABLE_FLAGS;
 
-const SPOILED: [Aim; 21] = [
+const SPOILED: [Aim; 22] = [
     wrong_value(UNSUPPORTED, c::VERSION, 2, 1, 3),
     // 31 and an extension of 97 or more make 129 objects or more.
     wrong_value(LIMIT, c::OBJECT_COUNT, 12, 31 << 7 | 97, 31 << 7 | 127),
@@ -67,7 +67,8 @@ const SPOILED: [Aim; 21] = [
     wrong_value(INVALID, c::GLOBAL_TRIM_MODE, 2, 3, 3),
     aim(UNSUPPORTED, c::CUSTOM_TRIM_CONFIGURATION, CUSTOM_TRIM),
     aim(UNSUPPORTED, c::ALTERNATE_OBJECT_DATA_TYPE, OTHER_TYPE),
-    aim(LIMIT, c::ELEMENT_SIZE, Way::FifthSizeGroup),
+    aim(TRUNCATED, c::ELEMENT, Way::SizeGroups(4)),
+    aim(LIMIT, c::ELEMENT_SIZE, Way::SizeGroups(5)),
     aim(LIMIT, c::ELEMENT_SIZE, Way::PayloadEnd(LATER_SIZE_GROUP)),
     aim(INVALID, c::ELEMENT_PADDING, Way::OneBit(c::ELEMENT_PADDING)),
     aim(INVALID, c::PAYLOAD_PADDING, Way::OneBit(c::PAYLOAD_PADDING)),

@@ -18,7 +18,8 @@ pub enum Way {
     Value(u8, usize, u32, u32),
     /// One of these zero bits is set.
     OneBit(u8),
-    FifthSizeGroup,
+    /// An element's size has so many groups: four take in more than the payload has, and five are refused.
+    SizeGroups(usize),
     WrongCount,
     TooManyObjects,
     SecondObjectElement,
@@ -47,7 +48,7 @@ impl Way {
                 let field = one_of(&bits, context, random).filter(|field| field.width > 0)?;
                 bits.overwrite(field.place + random.index(field.width), 1, 1);
             }
-            Way::FifthSizeGroup => fifth_size_group(&mut bits, random)?,
+            Way::SizeGroups(count) => size_groups(&mut bits, count, random)?,
             Way::WrongCount => wrong_count(&mut bits, random)?,
             Way::SecondObjectElement => {
                 let later = ids_from_object(&bits, &payload).split_off(1);
@@ -100,11 +101,12 @@ fn end_element(payload: &mut Payload, context: u8, random: &mut Random) -> Optio
     })
 }
 
-/// Four groups whose more flags are set, and one that ends: five in all.
-fn fifth_size_group(bits: &mut Bits, random: &mut Random) -> Option<()> {
+/// Groups of any bits, or of ones: the more flag is set behind each but the last.
+fn size_groups(bits: &mut Bits, count: usize, random: &mut Random) -> Option<()> {
     let size = one_of(bits, c::ELEMENT_ID, random)?.place + 4;
-    let groups = random.below(1 << 25) & !1 | 0b00001_00001_00001_00001_00000;
-    overwrite(bits, size, 25, groups)
+    let any = random.next() as u32;
+    let groups = random.pick(&[any, any, u32::MAX]) & !1 | 0b00001_00001_00001_00001_00000;
+    overwrite(bits, size, 5 * count, groups)
 }
 
 /// Another count in as many bits, so that what follows keeps its places.

@@ -19,21 +19,22 @@ const GAP: Record = Record::Call(Call::Gap);
 /// The specification's payload A.
 const A: [u8; 6] = [0x01, 0x04, 0x48, 0x00, 0x06, 0x00];
 
-/// Bench cases of the specification: bytes that a fresh decoder gets, with number, context and place.
-const BENCH_CASES: [(&[u8], [u32; 3]); 11] = [
-    (&[], [1, 1, 0]),
-    (&[0x40], [4, 1, 0]),
-    (&[0x01, 0x00], [2, 18, 16]),
-    (&A, [0, 0, 0]),
-    (&[0x01, 0x04, 0x48, 0x00, 0x06], [1, 11, 23]),
-    (&[0x01, 0x04, 0x48, 0x00, 0x06, 0x01], [2, 17, 47]),
-    (&[0x01, 0x04, 0x48, 0x00, 0x06, 0x02], [2, 16, 46]),
+/// Bench cases of the specification: bytes that a fresh decoder gets, with number, context, place and
+/// missing bits.
+const BENCH_CASES: [(&[u8], [u32; 4]); 11] = [
+    (&[], [1, 1, 0, 2]),
+    (&[0x40], [4, 1, 0, 0]),
+    (&[0x01, 0x00], [2, 18, 16, 0]),
+    (&A, [0, 0, 0, 0]),
+    (&[0x01, 0x04, 0x48, 0x00, 0x06], [1, 11, 23, 7]),
+    (&[0x01, 0x04, 0x48, 0x00, 0x06, 0x01], [2, 17, 47, 0]),
+    (&[0x01, 0x04, 0x48, 0x00, 0x06, 0x02], [2, 16, 46, 0]),
     // The two that are not proved: Truncated at position X, Invalid reserved data.
-    (&[0x01, 0x04, 0x48, 0x00, 0x04, 0x00], [1, 63, 47]),
-    (&[0x01, 0x04, 0x48, 0x00, 0x02, 0x00], [2, 46, 38]),
+    (&[0x01, 0x04, 0x48, 0x00, 0x04, 0x00], [1, 63, 47, 6]),
+    (&[0x01, 0x04, 0x48, 0x00, 0x02, 0x00], [2, 46, 38, 0]),
     // 128 objects pass the count rule, and the payload ends in a flag behind it; 129 do not.
-    (&[0x3f, 0x82], [1, 5, 16]),
-    (&[0x3f, 0x84], [3, 3, 2]),
+    (&[0x3f, 0x82], [1, 5, 16, 1]),
+    (&[0x3f, 0x84], [3, 3, 2, 0]),
 ];
 
 /// Each sequence begins with a programme start, or with a reset.
@@ -52,11 +53,12 @@ fn bench_cases() -> Vec<Vec<Record>> {
     let mut all = Vec::new();
     for (payload, said) in BENCH_CASES {
         let found = match Oracle::default().decode(payload) {
-            Ok(_) => [0; 3],
+            Ok(_) => [0; 4],
             Err(refusal) => [
                 u32::from(refusal.number),
                 u32::from(refusal.context),
                 refusal.place as u32,
+                refusal.missing as u32,
             ],
         };
         assert_eq!(found, said, "the oracle answers as the specification says");

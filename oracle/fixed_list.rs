@@ -73,6 +73,7 @@ fn answer(expected: &Expected, retained: &[i16]) -> Vec<u8> {
     let mut bytes = vec![small(said.number), small(said.context)];
     bytes.extend(said.place.to_be_bytes());
     bytes.extend([said.objects, said.blocks, said.unsettled].map(small));
+    bytes.extend(said.missing.to_be_bytes());
     if said.number == 0 {
         let timings = expected.timings.iter();
         bytes.extend(timings.flat_map(|timing| timing.to_be_bytes()));

@@ -24,8 +24,9 @@ pub const TIMINGS_SENTINEL: u16 = 43690;
 // One byte more than decode reads.
 pub const LONGEST_PAYLOAD: usize = PAYLOAD_LIMIT + 1;
 
-// The answer's bytes: number, context, place in four, objects, blocks, unsettled; then the timings, two bytes each.
-pub const TIMINGS_AT: usize = 9;
+// The answer's bytes: number, context, place in four, objects, blocks, unsettled, missing bits in four; then the
+// timings, two bytes each.
+pub const TIMINGS_AT: usize = 13;
 
 // And then the head of the retained table, the start rows, the retained rows and the block rows, a byte each.
 pub const LONGEST_ANSWER: usize = TIMINGS_AT

@@ -25,6 +25,7 @@ struct Given {
     objects: usize,
     blocks: usize,
     unsettled: usize,
+    missing: usize,
 }
 
 fn unread(number: u32) -> Given {
@@ -35,6 +36,7 @@ fn unread(number: u32) -> Given {
         objects: 0,
         blocks: 0,
         unsettled: 0,
+        missing: 0,
     }
 }
 
@@ -46,6 +48,7 @@ fn refused(refusal: bits::Refusal) -> Given {
         objects: 0,
         blocks: 0,
         unsettled: 0,
+        missing: refusal.missing,
     }
 }
 
@@ -58,6 +61,7 @@ fn said(decoded: Decoded) -> Given {
             objects: frame.objects as usize,
             blocks: frame.blocks as usize,
             unsettled: frame.unsettled as usize,
+            missing: 0,
         },
         Decoded::Refused(refusal) => refused(refusal),
         Decoded::Unread(number) => unread(number),
@@ -72,6 +76,7 @@ fn answer_compared(tally: Tally, given: Given, answer: &[u8]) -> Tally {
         .answered(3, given.objects, list::wide(list::byte_at(answer, 6)))
         .answered(4, given.blocks, list::wide(list::byte_at(answer, 7)))
         .answered(5, given.unsettled, list::wide(list::byte_at(answer, 8)))
+        .answered(6, given.missing, list::four_at(answer, 9))
 }
 
 // What the retained table has: count and doubt, the rows, zeros behind them.

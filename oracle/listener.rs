@@ -29,6 +29,18 @@ impl Said {
     }
 }
 
+impl From<Refusal> for Said {
+    fn from(refusal: Refusal) -> Self {
+        Said {
+            number: u32::from(refusal.number),
+            context: u32::from(refusal.context),
+            place: refusal.place as u32,
+            missing: refusal.missing as u32,
+            ..Said::default()
+        }
+    }
+}
+
 /// What one payload is to give. The rows are those of the tables, number by number; a refusal has none.
 #[derive(Clone, Default)]
 pub struct Expected {
@@ -90,7 +102,7 @@ impl Listener {
             Err(refusal) => {
                 self.marks.refuse();
                 Expected {
-                    said: refused(refusal),
+                    said: Said::from(refusal),
                     ..Expected::default()
                 }
             }
@@ -125,16 +137,6 @@ impl Listener {
         let numbers = marked(&rows, &self.marks.marks);
         table[RETAINED_HEAD..RETAINED_HEAD + numbers.len()].copy_from_slice(&numbers);
         table
-    }
-}
-
-fn refused(refusal: Refusal) -> Said {
-    Said {
-        number: u32::from(refusal.number),
-        context: u32::from(refusal.context),
-        place: refusal.place as u32,
-        missing: refusal.missing as u32,
-        ..Said::default()
     }
 }
 

@@ -13,6 +13,16 @@ pub struct Difference {
     pub found: i64,
 }
 
+impl Difference {
+    /// The same, with where it was found.
+    pub fn within(self, part: &str) -> Self {
+        Difference {
+            part: format!("{part}: {}", self.part),
+            ..self
+        }
+    }
+}
+
 impl fmt::Display for Difference {
     fn fmt(&self, formatter: &mut fmt::Formatter<'_>) -> fmt::Result {
         let Difference {
@@ -47,7 +57,8 @@ pub fn said(expected: &Said, found: &Said) -> Result<(), Difference> {
     number("place", expected.place, found.place)?;
     number("objects", expected.objects, found.objects)?;
     number("blocks", expected.blocks, found.blocks)?;
-    number("unsettled", expected.unsettled, found.unsettled)
+    number("unsettled", expected.unsettled, found.unsettled)?;
+    number("missing", expected.missing, found.missing)
 }
 
 pub fn tables(expected: &Tables, found: &Tables) -> Result<(), Difference> {

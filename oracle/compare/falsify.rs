@@ -1,5 +1,7 @@
-//! Shows that the comparison can fail: wrong numbers, one of each sort, and wrong models of the marks.
+//! Shows that the comparison can fail: wrong numbers, one of each sort, a wrong decoder of longer payloads,
+//! and wrong models of the marks.
 
+use crate::appended::Fault;
 use crate::heard_all::{Breach, Wrong, BREACHES};
 use crate::run::Run;
 use crate::spoil::{spoils, Spoil};
@@ -12,6 +14,7 @@ const SEQUENCES: usize = 20_000;
 pub fn falsify(seed: u64) -> bool {
     let spoils = spoils();
     let wrongs = Wrong::all();
+    let faults = Fault::all();
     let numbers: Vec<bool> = spoils
         .iter()
         .map(|spoil| wrong_number(seed, *spoil))
@@ -19,6 +22,10 @@ pub fn falsify(seed: u64) -> bool {
     let heard: Vec<bool> = wrongs
         .iter()
         .map(|wrong| wrongly_heard(seed, *wrong))
+        .collect();
+    let longer: Vec<bool> = faults
+        .iter()
+        .map(|fault| faulty_longer(seed, *fault))
         .collect();
     let models: Vec<bool> = MISTAKES
         .iter()
@@ -35,6 +42,7 @@ pub fn falsify(seed: u64) -> bool {
             &wrongs,
             &heard,
         )
+        & report("faults of longer payloads", &faults, &longer)
         & report("events that break the demand", &BREACHES, &breaches)
         & report("wrong models", &MISTAKES, &models)
 }
@@ -75,25 +83,31 @@ fn report(name: &str, all: &[impl std::fmt::Debug], right: &[bool]) -> bool {
 fn wrong_number(seed: u64, spoil: Spoil) -> bool {
     let mut run = Run::new(seed, Listener::default());
     run.bench.spoil = Some(spoil);
-    for _ in 0..SEQUENCES {
-        let found = run.sequence().is_err();
-        let spoiled = run.bench.spoil.is_some_and(|spoil| spoil.done);
-        if found || spoiled {
-            return found && spoiled;
-        }
-    }
-    false
+    let spoiled = |run: &Run| run.bench.spoil.is_some_and(|spoil| spoil.done);
+    judged(run, spoiled, true)
 }
 
 /// A settled number that is wrong is found at once; an unsettled one is not.
 fn wrongly_heard(seed: u64, wrong: Wrong) -> bool {
     let mut run = Run::new(seed, Listener::default());
     run.all.spoil = Some(wrong);
+    judged(run, |run| run.all.spoil.is_none(), wrong.is_found())
+}
+
+/// A wrong answer to a truncated payload with bytes appended is found at once.
+fn faulty_longer(seed: u64, fault: Fault) -> bool {
+    let mut run = Run::new(seed, Listener::default());
+    run.appended.fault = Some(fault);
+    judged(run, |run| run.appended.fault.is_none(), true)
+}
+
+/// Whether the sequence in which a number is spoiled, and none before it, has a difference; or has none.
+fn judged(mut run: Run, spoiled: impl Fn(&Run) -> bool, is_found: bool) -> bool {
     for _ in 0..SEQUENCES {
         let found = run.sequence().is_err();
-        let spoiled = run.all.spoil.is_none();
+        let spoiled = spoiled(&run);
         if found || spoiled {
-            return spoiled && found == wrong.is_found();
+            return spoiled && found == is_found;
         }
     }
     false

@@ -4,9 +4,10 @@
 //! proved one is astray, so must the picture wherever it is called settled, and in start rows activity,
 //! gain and priority, unless doubt stood, by a gap notice or a reset.
 
-use crate::difference::{number, Difference};
+use crate::difference::{self, number, Difference};
 use crate::events::{Event, Following};
 use crate::proved::Tables;
+use crate::spoil::{spoil_answer, ANSWERS};
 use oracle::answer::{Frame, Oracle, Row};
 use oracle::call::Call;
 use oracle::listener::Said;
@@ -39,9 +40,11 @@ pub enum Breach {
 
 pub const BREACHES: [Breach; 2] = [Breach::StartToOne, Breach::AstrayCompared];
 
-/// Which number of an accepted frame is heard wrongly.
+/// Which number is heard wrongly.
 #[derive(Clone, Copy, Debug, PartialEq, Eq)]
 pub enum Wrong {
+    /// A number of a refusal.
+    Refusal(usize),
     Timing,
     /// A column of a start row that has to agree.
     Start(usize),
@@ -108,9 +111,12 @@ impl HeardAll {
     ) -> Result<(), Difference> {
         match self.oracle.decode(payload) {
             Err(refusal) => {
-                number("heard all: number", refusal.number, said.number)?;
-                number("heard all: context", refusal.context, said.context)?;
-                number("heard all: place", refusal.place as u32, said.place)
+                let mut heard = Said::from(refusal);
+                if let Some(Wrong::Refusal(index)) = self.spoil {
+                    spoil_answer(&mut heard, index);
+                    self.spoil = None;
+                }
+                difference::said(&heard, said).map_err(|other| other.within("heard all"))
             }
             Ok(mut frame) => {
                 number("heard all: number", 0, said.number)?;
@@ -170,7 +176,8 @@ fn compare_row(
 
 impl Wrong {
     pub fn all() -> Vec<Wrong> {
-        let mut all = vec![Wrong::Timing];
+        let mut all: Vec<Wrong> = (0..ANSWERS).map(Wrong::Refusal).collect();
+        all.push(Wrong::Timing);
         all.extend((0..MARK).map(Wrong::Start));
         all.extend((0..MARK).map(Wrong::Block));
         all.extend((0..X).map(Wrong::Astray));
@@ -187,6 +194,7 @@ impl Wrong {
         let start = frame.start.iter_mut().zip(tables.start.chunks(ROW_WIDTH));
         let blocks = frame.blocks.iter_mut().zip(tables.blocks.chunks(ROW_WIDTH));
         match self {
+            Wrong::Refusal(_) => false,
             Wrong::Timing => {
                 frame.timings[0][0] ^= 1;
                 true

@@ -9,6 +9,7 @@
 use oracle::listener::Listener;
 use std::process::ExitCode;
 
+mod appended;
 mod bench;
 mod difference;
 mod events;

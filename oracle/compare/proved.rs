@@ -85,7 +85,7 @@ impl Tables {
             .iter()
             .zip(self.lengths())
             .all(|(lent, length)| *lent <= length));
-        let mut answer = [NO_ANSWER; 5];
+        let mut answer = [NO_ANSWER; 6];
         // Each pointer goes with a length within its own vector, and nothing else holds them.
         let number = unsafe {
             oamd_decode(
@@ -102,7 +102,7 @@ impl Tables {
                 answer.as_mut_ptr(),
             )
         };
-        let [context, place, objects, blocks, unsettled] = answer;
+        let [context, place, objects, blocks, unsettled, missing] = answer;
         Said {
             number,
             context,
@@ -110,6 +110,7 @@ impl Tables {
             objects,
             blocks,
             unsettled,
+            missing,
         }
     }
 

@@ -1,5 +1,6 @@
 //! Sequences of payloads and of calls on the retained table, given to both decoders.
 
+use crate::appended::Appended;
 use crate::bench::Bench;
 use crate::difference::Difference;
 use crate::events::{drawn, Event};
@@ -7,7 +8,7 @@ use crate::heard_all::HeardAll;
 use crate::lent;
 use crate::seen;
 use crate::tally::Tally;
-use oracle::answer::Oracle;
+use oracle::answer::{Oracle, TRUNCATED};
 use oracle::call::Call;
 use oracle::form::random_table;
 use oracle::generator::{Generator, Options};
@@ -31,6 +32,7 @@ const SORTS: [Sort; 3] = [Sort::Undisturbed, Sort::Disturbed, Sort::BesideAll];
 pub struct Run {
     pub bench: Bench,
     pub all: HeardAll,
+    pub appended: Appended,
     pub tally: Tally,
     generator: Generator,
     random: Random,
@@ -44,6 +46,7 @@ impl Run {
         Run {
             bench: Bench::new(listener),
             all: HeardAll::default(),
+            appended: Appended::new(seed),
             tally: Tally::default(),
             generator: Generator::new(seed, Options::default()),
             random: Random::new(!seed),
@@ -155,6 +158,10 @@ impl Run {
     fn decode(&mut self, payload: &[u8]) -> Result<Expected, Difference> {
         let expected = self.bench.decode(payload)?;
         self.tally.count(&expected);
+        if expected.said.number == u32::from(TRUNCATED) {
+            let seen = &mut self.tally.seen;
+            self.appended.check(payload, &expected.said, seen)?;
+        }
         Ok(expected)
     }
 

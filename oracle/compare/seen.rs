@@ -82,12 +82,18 @@ const REFUSED: [&str; 7] = [
     GAP_FORM,
 ];
 
+pub const FEWER: &str = "fewer bits than the payload's end left missing";
+pub const ENOUGH: &str = "at least as many";
+pub const INSIDE: &str = "any, where an element's end cut the read";
+const APPENDED: [&str; 3] = [FEWER, ENOUGH, INSIDE];
+
 /// Names with their titles.
-const GROUPS: [(&str, &[&str]); 6] = [
+const GROUPS: [(&str, &[&str]); 7] = [
     (
         "further calls that are refused before a payload is read",
         &REFUSED,
     ),
+    ("truncated payloads with bytes appended", &APPENDED),
     ("sequences that begin with", &HEADS),
     ("calls between payloads of the other sequences", &CALLS),
     ("beside a decoder that heard all", &COMPARED),

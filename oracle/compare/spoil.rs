@@ -38,7 +38,8 @@ pub struct Spoil {
     pub done: bool,
 }
 
-const ANSWERS: usize = 6;
+/// The number given back, and those of the answer.
+pub const ANSWERS: usize = 7;
 
 /// One spoil of each sort.
 pub fn spoils() -> Vec<Spoil> {
@@ -86,7 +87,10 @@ impl Spoil {
             return;
         }
         self.done = match self.place {
-            Place::Answer(index) => spoil_answer(said, index),
+            Place::Answer(index) => {
+                spoil_answer(said, index);
+                true
+            }
             Place::At(table, index) => spoil_number(tables, table, index),
             Place::BehindUsed(table) => spoil_number(tables, table, used(said, table)),
             Place::LastNeeded(table) => spoil_number(tables, table, NEEDED[table] - 1),
@@ -103,7 +107,7 @@ fn used(said: &Said, table: usize) -> usize {
     [RETAINED_HEAD + row, row, row * blocks, 2 * blocks][table]
 }
 
-fn spoil_answer(said: &mut Said, index: usize) -> bool {
+pub fn spoil_answer(said: &mut Said, index: usize) {
     let numbers = [
         &mut said.number,
         &mut said.context,
@@ -111,9 +115,9 @@ fn spoil_answer(said: &mut Said, index: usize) -> bool {
         &mut said.objects,
         &mut said.blocks,
         &mut said.unsettled,
+        &mut said.missing,
     ];
-    *numbers.into_iter().nth(index).expect("six numbers") ^= 1;
-    true
+    *numbers.into_iter().nth(index).expect("seven numbers") ^= 1;
 }
 
 fn spoil_number(tables: &mut Tables, table: usize, index: usize) -> bool {

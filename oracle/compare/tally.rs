@@ -2,8 +2,9 @@
 
 use crate::seen::Seen;
 use oracle::aim::aims;
+use oracle::answer::TRUNCATED;
 use oracle::context;
-use oracle::listener::Expected;
+use oracle::listener::{Expected, Said};
 use oracle::orders::{Order, Position};
 use oracle::tables::{MARK, ROW_WIDTH};
 use std::collections::{BTreeMap, BTreeSet};
@@ -16,6 +17,9 @@ pub struct Tally {
     pub payloads: u64,
     pub accepted: u64,
     refused: BTreeMap<(u32, u32), u64>,
+    truncated: u64,
+    one_bit_missing: u64,
+    most_missing: u32,
     gain_codes: [u64; 4],
     basic_statuses: [u64; 4],
     render_statuses: [u64; 4],
@@ -36,7 +40,7 @@ impl Tally {
         self.payloads += 1;
         let said = expected.said;
         if said.number != 0 {
-            *self.refused.entry((said.number, said.context)).or_default() += 1;
+            self.count_refusal(&said);
             return;
         }
         self.accepted += 1;
@@ -49,6 +53,13 @@ impl Tally {
         for order in &expected.orders {
             self.count_order(order);
         }
+    }
+
+    fn count_refusal(&mut self, said: &Said) {
+        *self.refused.entry((said.number, said.context)).or_default() += 1;
+        self.truncated += u64::from(said.number == u32::from(TRUNCATED));
+        self.one_bit_missing += u64::from(said.missing == 1);
+        self.most_missing = self.most_missing.max(said.missing);
     }
 
     fn count_order(&mut self, order: &Order) {
@@ -67,8 +78,7 @@ impl Tally {
         }
     }
 
-    pub fn print(&self) {
-        let share = self.accepted * 100 / self.payloads.max(1);
+    fn print_refusals(&self) {
         for (&(number, context), times) in &self.refused {
             let text = if context == 0 {
                 "payload over the limit"
@@ -77,6 +87,15 @@ impl Tally {
             };
             println!("{times:9} no {number} {context} {text}");
         }
+        println!(
+            "Truncated {}, of these with 1 bit missing {}, the most bits missing {}",
+            self.truncated, self.one_bit_missing, self.most_missing
+        );
+    }
+
+    pub fn print(&self) {
+        self.print_refusals();
+        let share = self.accepted * 100 / self.payloads.max(1);
         println!(
             "payloads {}, accepted {} ({share} %)",
             self.payloads, self.accepted

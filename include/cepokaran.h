@@ -141,7 +141,8 @@ uint32_t oamd_gap(int16_t *retained, size_t retained_len);
 
 /* ---- Decode ---------------------------------------------------------------------------------- */
 
-/* The place of each number in decode's answer. */
+/* The place of each number in decode's answer. All six are written, whatever is returned: a program that
+ * was built when there were five must be built anew. */
 enum {
     CEPOKARAN_CONTEXT = 0,  /* refused by 1 to 4: which field, by the list in docs/CONTEXTS.md */
     CEPOKARAN_PLACE = 1,    /* refused by 1 to 4: its bit, counted from the payload's first */

@@ -3,7 +3,7 @@ use Prim.Native.Nat.{ℕ, zero, suc, _+_, _-_, _≤_, _<_}
 use mathlib.Core.Path.{_≡_, refl, sym, _∙_, ap}
 use mathlib.Core.Bool.{Bool, true, false, cond, true≢false}
 use mathlib.Core.List.{List, [], _∷_}
-use mathlib.Core.Option.{Option, none, some}
+use mathlib.Core.Option.{none, some}
 use native.Mathlib.Omega.{arith}
 use lib.Dec.{leb, eqb}
 use borrow.Author.Tests.{le-leb, leb-true, leb-false}
@@ -31,6 +31,11 @@ alike-field a p (suc w) h = rw (alike-field a p w (omega arith), a .same (p + w)
 abbrev pub less : ℕ → Refusal → Refusal
 less k r = record { number = r .number; context = r .context; place = r .place; missing = r .missing - k }
 
+pub less-none : (r : Refusal) (k : ℕ) → k ≡ 0 → less k r ≡ r
+less-none r k e =
+    let same : r .missing - k ≡ r .missing = omega arith in
+    ap (λ m. record { number = r .number; context = r .context; place = r .place; missing = m }) same
+
 module _ {A : Type 0} where
   -- nothing before the place p is cut
   abbrev pub From : ℕ → Parsed A → Type 0
@@ -41,6 +46,18 @@ module _ {A : Type 0} where
   pub record Eased (r : Refusal) (k : ℕ) (x : Parsed A) : Type 0 where
     pub short : k < r .missing → x ≡ refused (less k r)
     pub enough : r .missing ≤ k → From (r .place + 1) x
+
+  -- w bits from p were cut at e; at a later end they are cut too, or y follows
+  pub eased : (c p w e e′ : ℕ) → p ≤ e → e < p + w → e ≤ e′ → (y : Parsed A) → From (p + 1) y
+      → Eased (truncated c p w (e - p)) (e′ - e) (cond (leb (p + w) e′) y (refused (truncated c p w (e′ - p))))
+  eased c p w e e′ l h j y f = go (leb (p + w) e′) refl
+    where
+      go : (b : Bool) → leb (p + w) e′ ≡ b → Eased (truncated c p w (e - p)) (e′ - e) (cond b y (refused (truncated c p w (e′ - p))))
+      go true i = let n : p + w ≤ e′ = leb-true _ _ i in record { short = λ q. absurd (omega arith); enough = λ q. f }
+      go false i =
+          let n : e′ < p + w = leb-false _ _ i in
+          let same : w - (e′ - p) ≡ w - (e - p) - (e′ - e) = omega arith in
+          record { short = λ q. ap (λ m. refused (record { number = 1; context = c; place = p; missing = m })) same; enough = λ q. absurd (omega arith) }
 
 -- A stretch of bits: the contexts of what its end can cut, and what may be cut in it by another end
 pub record Stretch : Type 1 where
@@ -62,11 +79,11 @@ pub record GrowsAt {A : Type 0} (K : Stretch) (b : Bool) (m : Parser A) (s : Lis
   pub grown : Grown K b m s e p (m s e p)
 
 -- nothing is cut before the place where the reading begins
-pub record Onward {A : Type 0} (m : Parser A) : Type 0 where
+pub record Forward {A : Type 0} (m : Parser A) : Type 0 where
   pub from : (s : List ℕ) (e p : ℕ) → From p (m s e p)
 
 pub record Grows {A : Type 0} (K : Stretch) (b : Bool) (m : Parser A) : Type 0 where
-  pub onward : Onward m
+  pub forward : Forward m
   pub at : (s : List ℕ) (e p : ℕ) → p ≤ e → GrowsAt K b m s e p
 
 -- One after the other
@@ -83,9 +100,9 @@ module _ {A B : Type 0} where
   then-eased : (r : Refusal) (n : ℕ) (x : Parsed A) (k : A → ℕ → Parsed B) → ((a : A) (q : ℕ) → From q (k a q)) → Eased r n x → Eased r n (andThen x k)
   then-eased r n x k f h = record { short = λ l. rw (h .short l); enough = λ l. then-from (r .place + 1) x k (h .enough l) f }
 
-  pub onwards : {m : Parser A} {f : A → Parser B} → Onward m → ((a : A) → Onward (f a)) → Onward (m >>= f)
+  pub forwards : {m : Parser A} {f : A → Parser B} → Forward m → ((a : A) → Forward (f a)) → Forward (m >>= f)
   unfolding _>>=_
-  onwards {m} {f} h g = record { from = λ s e p. then-from p (m s e p) (λ a q. f a s e q) (h .from s e p) (λ a q. g a .from s e q) }
+  forwards {m} {f} h g = record { from = λ s e p. then-from p (m s e p) (λ a q. f a s e q) (h .from s e p) (λ a q. g a .from s e q) }
 
 -- a reading that goes on as another does
 module _ {A : Type 0} {K : Stretch} {b : Bool} {m n : Parser A} {s : List ℕ} {e p q : ℕ} where
@@ -103,13 +120,13 @@ module _ {A : Type 0} {K : Stretch} {b : Bool} {m n : Parser A} {s : List ℕ} {
 module _ {A : Type 0} {K : Stretch} {b : Bool} {m n : Parser A} where
   pub equal : ((s : List ℕ) (e p : ℕ) → n s e p ≡ m s e p) → Grows K b m → Grows K b n
   equal h g = record {
-    onward = record { from = λ s e p. rw (h s e p) (g .onward .from s e p) };
+    forward = record { from = λ s e p. rw (h s e p) (g .forward .from s e p) };
     at = λ s e p l. carried (λ t e′ i j. h t e′ p) (g .at s e p l);
   }
 
 module _ {A B : Type 0} {K : Stretch} {b : Bool} {m : Parser A} {f : A → Parser B} where
   -- where m gave a, f goes on
-  pub bound : {s : List ℕ} {e p : ℕ} → GrowsAt K true m s e p → ((a : A) → Onward (f a)) → ((a : A) (q : ℕ) → m s e p ≡ got a q → q ≤ e → GrowsAt K b (f a) s e q) → GrowsAt K b (m >>= f) s e p
+  pub bound : {s : List ℕ} {e p : ℕ} → GrowsAt K true m s e p → ((a : A) → Forward (f a)) → ((a : A) (q : ℕ) → m s e p ≡ got a q → q ≤ e → GrowsAt K b (f a) s e q) → GrowsAt K b (m >>= f) s e p
   unfolding _>>=_
   bound {s} {e} {p} h o g = record { grown = go (m s e p) refl (h .grown) }
     where
@@ -126,7 +143,7 @@ module _ {A B : Type 0} {K : Stretch} {b : Bool} {m : Parser A} {f : A → Parse
       go (refused r) z k = λ i. cut r (k i)
 
   pub bind : Grows K true m → ((a : A) → Grows K b (f a)) → Grows K b (m >>= f)
-  bind h g = record { onward = onwards (h .onward) (λ a. g a .onward); at = λ s e p l. bound (h .at s e p l) (λ a. g a .onward) (λ a q z k. g a .at s e q k) }
+  bind h g = record { forward = forwards (h .forward) (λ a. g a .forward); at = λ s e p l. bound (h .at s e p l) (λ a. g a .forward) (λ a q z k. g a .at s e q k) }
 
 module _ {A B : Type 0} {K : Stretch} {b : Bool} where
   pub next : {m : Parser A} {n : Parser B} → Grows K true m → Grows K b n → Grows K b (m >> n)
@@ -143,16 +160,16 @@ never r u e = let l = leb-true 2 (r .number) u in omega arith
 module _ {A : Type 0} {K : Stretch} {b : Bool} where
   pub given : (a : A) → Grows K b (pure a)
   unfolding pure
-  given a = record { onward = record { from = λ s e p. omega arith }; at = λ s e p l. record { grown = (l, λ t e′ i j z. refl) } }
+  given a = record { forward = record { from = λ s e p. omega arith }; at = λ s e p l. record { grown = (l, λ t e′ i j z. refl) } }
 
   pub refusing : (r : Refusal) → Uncut r → Grows {A = A} K b (refuse r)
   unfolding refuse
-  refusing r u = record { onward = record { from = λ s e p h. absurd (never r u h) }; at = λ s e p l. record { grown = λ h. absurd (never r u h) } }
+  refusing r u = record { forward = record { from = λ s e p h. absurd (never r u h) }; at = λ s e p l. record { grown = λ h. absurd (never r u h) } }
 
   pub recast : (r : Refusal) {m : Parser A} → Uncut r → Grows K b m → Grows K b (refusedAs r m)
   unfolding refusedAs
   recast r {m} u g = record {
-    onward = record { from = λ s e p. before p (m s e p) (g .onward .from s e p) };
+    forward = record { from = λ s e p. before p (m s e p) (g .forward .from s e p) };
     at = λ s e p l. record { grown = go s e p (m s e p) (g .at s e p l .grown) };
   }
     where
@@ -166,7 +183,7 @@ module _ {A : Type 0} {K : Stretch} {b : Bool} where
 
   pub from-here : {f : ℕ → Parser A} → ((at : ℕ) → Grows K b (f at)) → Grows K b (here >>= f)
   unfolding _>>=_ here
-  from-here {f} g = record { onward = record { from = λ s e p. g p .onward .from s e p }; at = λ s e p l. carried {m = f p} (λ t e′ i j. refl) (g p .at s e p l) }
+  from-here {f} g = record { forward = record { from = λ s e p. g p .forward .from s e p }; at = λ s e p l. carried {m = f p} (λ t e′ i j. refl) (g p .at s e p l) }
 
   pub choose : (c : Bool) {m n : Parser A} → Grows K b m → Grows K b n → Grows K b (cond c m n)
   choose true h k = h
@@ -211,20 +228,9 @@ module _ {A : Type 0} (w c : ℕ) (v : List ℕ → ℕ → A) where
   run : Parser A
   run = λ s e p. cond (leb (p + w) e) (got (v s p) (p + w)) (refused (truncated c p w (e - p)))
 
-  eased : (t : List ℕ) (e e′ p : ℕ) → e < p + w → p ≤ e → e ≤ e′ → Eased (truncated c p w (e - p)) (e′ - e) (run t e′ p)
-  unfolding run
-  eased t e e′ p h l j = go (leb (p + w) e′) refl
-    where
-      go : (z : Bool) → leb (p + w) e′ ≡ z → Eased (truncated c p w (e - p)) (e′ - e) (cond z (got (v t p) (p + w)) (refused (truncated c p w (e′ - p))))
-      go true i = let n : p + w ≤ e′ = leb-true _ _ i in record { short = λ q. absurd (omega arith); enough = λ q. omega arith }
-      go false i =
-          let n : e′ < p + w = leb-false _ _ i in
-          let same : w - (e′ - p) ≡ w - (e - p) - (e′ - e) = omega arith in
-          record { short = λ q. ap (λ m. refused (record { number = 1; context = c; place = p; missing = m })) same; enough = λ q. absurd (omega arith) }
-
   run-grows : (K : Stretch) → ((e : ℕ) (s t : List ℕ) → Alike e s t → (p : ℕ) → p + w ≤ e → v t p ≡ v s p) → K .cuts c ≡ true → Grows K true run
   unfolding run
-  run-grows K local k = record { onward = record { from = λ s e p. before (leb (p + w) e) s e p }; at = λ s e p l. record { grown = go (leb (p + w) e) s e p l refl } }
+  run-grows K local k = record { forward = record { from = λ s e p. before (leb (p + w) e) s e p }; at = λ s e p l. record { grown = go (leb (p + w) e) s e p l refl } }
     where
       before : (z : Bool) (s : List ℕ) (e p : ℕ) → From p (cond z (got (v s p) (p + w)) (refused (truncated c p w (e - p))))
       before true s e p = omega arith
@@ -234,7 +240,7 @@ module _ {A : Type 0} (w c : ℕ) (v : List ℕ → ℕ → A) where
       go true s e p l h =
           let n : p + w ≤ e = leb-true _ _ h in
           (n, λ t e′ i j y. rw (le-leb (p + w) e′ (omega arith), local e s t i p n))
-      go false s e p l h = let n : e < p + w = leb-false _ _ h in λ y. atEnd k (omega arith) (λ t e′ i j. eased t e e′ p n l j)
+      go false s e p l h = let n : e < p + w = leb-false _ _ h in λ y. atEnd k (omega arith) (λ t e′ i j. eased c p w e e′ l n j (got (v t p) (p + w)) (omega arith))
 
 module _ {K : Stretch} where
   pub a-field : (w c : ℕ) → K .cuts c ≡ true → Grows K true (read w c)
@@ -286,7 +292,7 @@ module _ {A : Type 0} {K : Stretch} where
   pub padded : (c : ℕ) {n : Parser A} → Closing n → Grows K false (padding c >> n)
   unfolding _>>_
   padded c {n} h = record {
-    onward = record { from = λ s e p. before s e p h (padding c s e p) (padding-tells c .tells s e p) };
+    forward = record { from = λ s e p. before s e p h (padding c s e p) (padding-tells c .tells s e p) };
     at = λ s e p l. record { grown = go s e p l h (padding c s e p) refl (padding-tells c .tells s e p) };
   }
     where

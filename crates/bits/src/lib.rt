@@ -21,11 +21,12 @@ pub struct ByteCount(pub usize);
 
 pub struct BitPlace(pub usize);
 
+// In this order it takes two words, so that an answer of a read stays small.
 pub struct Refusal {
     pub number: u8,
     pub context: u8,
+    pub missing: u32,
     pub place: BitPlace,
-    pub missing: usize,
 }
 
 pub enum Number {
@@ -60,15 +61,15 @@ impl ByteCount {
 
 impl Refusal {
     // What was wanted less what remained is missing; the other three miss nothing.
-    pub fn truncated(context: u8, place: BitPlace, wanted: usize, remained: usize) -> Refusal
+    pub fn truncated(context: u8, place: BitPlace, wanted: u32, remained: u32) -> Refusal
         requires { ⌜ remained ≤ wanted ⌝ }
         ensures { λ r. ⌜ refusal r ≡ truncated context (place .0) wanted remained ⌝ }
     {
         Refusal {
             number: 1,
             context,
-            place,
             missing: wanted - remained,
+            place,
         }
     }
 
@@ -78,8 +79,8 @@ impl Refusal {
         Refusal {
             number: 2,
             context,
-            place,
             missing: 0,
+            place,
         }
     }
 
@@ -89,8 +90,8 @@ impl Refusal {
         Refusal {
             number: 3,
             context,
-            place,
             missing: 0,
+            place,
         }
     }
 
@@ -100,8 +101,8 @@ impl Refusal {
         Refusal {
             number: 4,
             context,
-            place,
             missing: 0,
+            place,
         }
     }
 }
@@ -166,7 +167,7 @@ pub fn read(payload: &[u8], limit: BitPlace, at: BitPlace, width: usize, context
     ensures { λ r. ⌜ said r ≡ reads.read width context (now (payload .entry)) (limit .0) (at .0) ⌝ }
 {
     // A field ends where a run of its width does, so a cut is found in one place.
-    match skip(limit, at, width, context) {
+    match skip(limit, at, width as u32, context) {
         Passed::To(end) => Number::Value(bits_from(payload, at.0, width), end),
         Passed::Refused(refusal) => Number::Refused(refusal),
     }
@@ -209,7 +210,7 @@ pub fn read_flag(payload: &[u8], limit: BitPlace, at: BitPlace, context: u8) -> 
     }
 }
 
-pub fn skip(limit: BitPlace, at: BitPlace, count: usize, context: u8) -> Passed
+pub fn skip(limit: BitPlace, at: BitPlace, count: u32, context: u8) -> Passed
     ensures { λ r. ⌜ ((s : List ℕ) → saidPassed r ≡ reads.skip count context s (limit .0) (at .0)) ⌝ }
 {
     if limit.0 < at.0 {
@@ -217,10 +218,10 @@ pub fn skip(limit: BitPlace, at: BitPlace, count: usize, context: u8) -> Passed
     }
     // The sum of place and count may not fit, so the room is compared.
     let remained = limit.0 - at.0;
-    if remained < count {
-        return Passed::Refused(Refusal::truncated(context, at, count, remained));
+    if remained < count as usize {
+        return Passed::Refused(Refusal::truncated(context, at, count, remained as u32));
     }
-    Passed::To(BitPlace(at.0 + count))
+    Passed::To(BitPlace(at.0 + count as usize))
 }
 
 // A count of bytes less 1 in 4 bits, and so many bytes passed over.
@@ -237,7 +238,7 @@ pub fn skip_bytes(
         Number::Refused(refusal) => Passed::Refused(refusal),
         Number::Value(coded, next) => {
             let run = ByteCount(coded as usize + 1).bits();
-            skip(limit, next, run.0, data_context)
+            skip(limit, next, run.0 as u32, data_context)
         }
     }
 }

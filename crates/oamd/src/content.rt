@@ -52,7 +52,7 @@ pub fn parse_content(
         OBJECT_ELEMENT_ID => {
             parse_object_content(payload, head, kinds, start, found, blocks, timings)
         }
-        TRIM_ELEMENT_ID => parse_trim_content(payload, head, kinds.len(), found),
+        TRIM_ELEMENT_ID => parse_trim_content(payload, head, kinds.len() as u32, found),
         // What an unknown element holds is free.
         _ => {
             let at = head.content;
@@ -92,7 +92,7 @@ fn parse_object_content(
     }
 }
 
-fn parse_trim_content(payload: &[u8], head: Head, object_count: usize, found: Found) -> Elements
+fn parse_trim_content(payload: &[u8], head: Head, object_count: u32, found: Found) -> Elements
     ensures { λ r. ⌜ ((b : List ℤ) (t : List ℕ) → trimIn «object_count» (lentFrame (saidFound found) b t) (now (payload .entry)) (head .end .0) (head .content .0) ≡ framed (saidElements r) b t) ⌝ }
 {
     match parse_trim_element(payload, head.end, head.content, object_count) {

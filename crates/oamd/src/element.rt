@@ -100,8 +100,8 @@ fn read_element_end(payload: &[u8], limit: BitPlace, at: BitPlace) -> ElementEnd
                 return ElementEnd::Refused(Refusal::truncated(
                     contexts::ELEMENT,
                     inside,
-                    element_bits.0,
-                    limit.0 - inside.0,
+                    element_bits.0 as u32,
+                    (limit.0 - inside.0) as u32,
                 ));
             }
             ElementEnd::At(BitPlace(element_end), inside)

@@ -14,7 +14,7 @@ pub fn parse_trim_element(
     payload: &[u8],
     limit: BitPlace,
     at: BitPlace,
-    object_count: usize,
+    object_count: u32,
 ) -> Passed
     ensures { λ r. ⌜ saidPassed r ≡ paper.trim «object_count» (now (payload .entry)) (limit .0) (at .0) ⌝ }
 {
@@ -29,7 +29,7 @@ pub fn parse_trim_element(
     }
 }
 
-fn parse_reserved_bits(payload: &[u8], limit: BitPlace, at: BitPlace, object_count: usize) -> Passed
+fn parse_reserved_bits(payload: &[u8], limit: BitPlace, at: BitPlace, object_count: u32) -> Passed
     ensures { λ r. ⌜ saidPassed r ≡ reservedTrim «object_count» (now (payload .entry)) (limit .0) (at .0) ⌝ }
 {
     match bits::read(payload, limit, at, 2, contexts::TRIM_RESERVED_BITS) {
@@ -43,7 +43,7 @@ fn parse_reserved_bits(payload: &[u8], limit: BitPlace, at: BitPlace, object_cou
     }
 }
 
-fn parse_global_mode(payload: &[u8], limit: BitPlace, at: BitPlace, object_count: usize) -> Passed
+fn parse_global_mode(payload: &[u8], limit: BitPlace, at: BitPlace, object_count: u32) -> Passed
     ensures { λ r. ⌜ saidPassed r ≡ globalTrim «object_count» (now (payload .entry)) (limit .0) (at .0) ⌝ }
 {
     match bits::read(payload, limit, at, 2, contexts::GLOBAL_TRIM_MODE) {
@@ -63,7 +63,7 @@ fn parse_global_mode(payload: &[u8], limit: BitPlace, at: BitPlace, object_count
     }
 }
 
-fn skip_object_trims(payload: &[u8], limit: BitPlace, at: BitPlace, object_count: usize) -> Passed
+fn skip_object_trims(payload: &[u8], limit: BitPlace, at: BitPlace, object_count: u32) -> Passed
     ensures { λ r. ⌜ saidPassed r ≡ objectTrims «object_count» (now (payload .entry)) (limit .0) (at .0) ⌝ }
 {
     match bits::read_flag(payload, limit, at, contexts::PER_OBJECT_TRIM_DISABLE_FLAG) {

@@ -7,14 +7,11 @@ use mathlib.Core.List.{List}
 use lib.Dec.{ltb}
 use lib.IntN.{ℤ}
 use lib.Ieee.{lt}
-use Rattle.bits.specs.Parsed as paper
-use Rattle.bits.specs.Say.{refusal}
 use Rattle.bits.specs.declared.Refusal.{Refusal}
 use Rattle.standard.specs.Numbers.{payloadLimit, accepted}
 use Rattle.standard.specs.Floats.{one}
 use Rattle.standard.specs.Calls.{Lent, Done, Answer, RampAnswer, ShownAnswer, decode}
-use Rattle.standard.proofs.Bounds.{mostBits}
-use Rattle.standard.proofs.Refusals.{place-fits, missing-fits}
+use Rattle.standard.proofs.Refusals.{place-fits}
 use Rattle.oamd.specs.Promises.{Left, saidDecoded}
 use Rattle.oamd.specs.declared.decoder.Decoded.{Decoded}
 use Rattle.oamd.specs.declared.decoder.Decoded.the-variants as decoded
@@ -39,16 +36,14 @@ left-twin l e =
       timings = l .timings;
     }
 
--- a refusal's place and missing bits fit 32 bits
-module _ (p : List ℕ) (l : Lent) {a : Decoded} {z : Refusal} {r s b : List ℤ} {t : List ℕ} (h : Left (decode p l) a r s b t) (e : a ≡ decoded.Refused z) where
-  verdict : refusal z ≡ decode p l .answer .verdict
-  verdict = sym (ap (λ (x : Decoded). saidDecoded x .verdict) e) ∙ ap (λ (x : Answer). x .verdict) (h .answer)
-
-  pub place-small : z .place .0 ≤ payloadLimit * 8
-  place-small = rw (ap (λ (v : paper.Refusal). v .place) verdict) (place-fits p l)
-
-  pub missing-small : z .missing ≤ mostBits
-  missing-small = rw (ap (λ (v : paper.Refusal). v .missing) verdict) (missing-fits p l)
+-- a refusal's place fits 32 bits
+pub place-small : (p : List ℕ) (l : Lent) {a : Decoded} {z : Refusal} {r s b : List ℤ} {t : List ℕ} → Left (decode p l) a r s b t → a ≡ decoded.Refused z
+    → z .place .0 ≤ payloadLimit * 8
+place-small p l {a} {z} h e =
+    let same : z .place .0 ≡ decode p l .answer .verdict .place =
+    sym (ap (λ (x : Decoded). saidDecoded x .verdict .place) e) ∙ ap (λ (x : Answer). x .verdict .place) (h .answer) in
+    let k = place-fits p l in
+    omega arith
 
 -- a refusal has no ramp, and no number 0
 below-one : {a : RampAnswer} (r : Ramp) → Ramped a r → rampSaid r .number ≡ accepted

@@ -33,7 +33,7 @@ pub extern "C" fn oamd_decode(
                 0,
                 0,
                 0,
-                refusal.missing as u32,
+                refusal.missing,
             ];
             refusal.number as u32
         }

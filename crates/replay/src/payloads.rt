@@ -48,7 +48,7 @@ fn refused(refusal: bits::Refusal) -> Given {
         objects: 0,
         blocks: 0,
         unsettled: 0,
-        missing: refusal.missing,
+        missing: refusal.missing as usize,
     }
 }
 

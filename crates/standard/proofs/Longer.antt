@@ -1,23 +1,20 @@
 -- What more bits would change in an element that is cut by its end.
-use Prim.Native.Nat.{ℕ, zero, suc, _+_, _*_, _-_, _^_, _≤_, _<_}
-use mathlib.Core.Path.{_≡_, refl, sym, _∙_, ap}
-use mathlib.Core.Bool.{Bool, true, false, cond}
+use Prim.Native.Nat.{ℕ, zero, suc, _+_, _*_, _^_, _≤_, _<_}
+use mathlib.Core.Path.{_≡_, refl}
+use mathlib.Core.Bool.{Bool, true, false}
 use mathlib.Core.List.{List}
 use mathlib.Core.Option.{Option, none, some}
 use native.Mathlib.Omega.{arith}
 use lib.Dec.{leb, eqb}
-use lib.ListN.{length}
-use borrow.Author.Tests.{le-leb, leb-true, leb-false}
+use borrow.Author.Tests.{le-leb}
 use Rattle.bits.specs.Bits.{field}
-use Rattle.bits.specs.Parsed.{Refusal, Parsed, got, refused, Parser, andThen, mapParsed, _>>=_, _>>_, mapP, pure, refuse, within, here, theEnd, goTo, require, truncated, invalid, unsupported}
+use Rattle.bits.specs.Parsed.{Refusal, Parsed, got, refused, Parser, _>>=_, _>>_, mapP, pure, refuse, here, require, unsupported}
 use Rattle.bits.specs.Reads.{read, flag, extended, skipBytes, laterGroups, variableBits}
 use Rattle.bits.proofs.Growing.{Alike, alike-itself, alike-field, From, Stretch, GrowsAt, Grows, carried, bind, next, mapped, from-here, choose, given, refusing, recast, Uncut, never, a-field, a-flag, Closing, gives, padded, growing}
-use Rattle.bits.proofs.ParsedLaws.{then-got, map-then}
 use Rattle.standard.specs.Contexts as context
 use Rattle.standard.specs.Tree.{Kind, Tree}
-use Rattle.standard.specs.Assignment.{version, objectCount, onlyDynamic, oneBed, beds, isfs, dynamics, contents, assignment}
 use Rattle.standard.specs.Updates.{gainWord, priorityWord, basic, differential, absolutely, distance, positionWord, zoneWord, sizeWord, screenWord, groups, render, status, activeUpdate, tableData, update, object}
-use Rattle.standard.specs.Syntax.{sampleOffset, ramp, timing, reserved, objectElement, trim, elementCount, elementSize, alternate, once, content, element, elements, present, body, payload}
+use Rattle.standard.specs.Syntax.{sampleOffset, ramp, timing, reserved, objectElement, trim, alternate, once, content}
 use Rattle.standard.proofs.Bounds.{Inside}
 
 -- Of any stretch
@@ -116,7 +113,7 @@ module _ (alternated : Bool) (ks : List Kind) (at id : ℕ) (o : Option Tree) wh
   inside-from s e p l = go (opened alternated (content ks at id o) s e p l)
     where
       go : Opened alternated (content ks at id o) s e p → From (p + 1) (Inside alternated ks at id o s e p)
-      go (through q h k f) = rw (f s e (alike-itself e s) (omega arith)) (on (content ks at id o s e q) (in-element ks at id o .onward .from s e q))
+      go (through q h k f) = rw (f s e (alike-itself e s) (omega arith)) (on (content ks at id o s e q) (in-element ks at id o .forward .from s e q))
         where
           on : (x : Parsed (Option Tree)) → From q x → From (p + 1) x
           on (got a q′) z = omega arith

@@ -10,7 +10,7 @@ use borrow.Author.Tests.{le-leb, leb-true, leb-false}
 use Rattle.bits.specs.Parsed.{Refusal, Parsed, got, refused, Parser, andThen, _>>=_, _>>_, mapP, pure, refuse, within, here, theEnd, goTo, require, truncated, invalid}
 use Rattle.bits.specs.Reads.{read, flag, padding, variableBits}
 use Rattle.bits.proofs.ParsedLaws.{then-got, map-then, then-then}
-use Rattle.bits.proofs.Growing.{Alike, alike-before, less, From, Eased, Stretch, Cut, atEnd, inside, Grown, GrowsAt, Onward, Grows, onwards, carried, bound, next, given, a-field, a-flag, Closing, refuses, padded, growing}
+use Rattle.bits.proofs.Growing.{Alike, alike-before, less-none, From, Eased, eased, Stretch, Cut, atEnd, inside, Grown, GrowsAt, Forward, Grows, forwards, carried, bound, given, a-field, a-flag, Closing, refuses, padded, growing}
 use Rattle.standard.specs.Contexts as context
 use Rattle.standard.specs.Tree.{Kind, Tree}
 use Rattle.standard.specs.Assignment.{version, objectCount, onlyDynamic, oneBed, beds, isfs, dynamics, contents, assignment}
@@ -18,7 +18,7 @@ use Rattle.standard.specs.Syntax.{elementCount, elementSize, element, el
 use Rattle.standard.proofs.Bounds.{Inside}
 use Rattle.standard.proofs.Longer.{variable, extension, bytes, lastOutside, ofElement, closing, inside-from, inside-grows}
 
--- What a payload says up to the bytes of an element, of those before which n stand
+-- What a payload says up to the bytes of an element before which n elements stand
 pub record Opening : Type 0 where
   pub kinds : List Kind
   pub alternated : Bool
@@ -71,11 +71,6 @@ Sized alternated ks at id o n = do
   goTo (start + n * 8)
   pure t
 
-less-none : (r : Refusal) (k : ℕ) → k ≡ 0 → less k r ≡ r
-less-none r k e =
-    let same : r .missing - k ≡ r .missing = omega arith in
-    ap (λ m. record { number = r .number; context = r .context; place = r .place; missing = m }) same
-
 module _ (alternated : Bool) (ks : List Kind) (at id : ℕ) (o : Option Tree) (n : ℕ) (some : 1 ≤ n) where
   -- the element's end closes it
   closed : List ℕ → ℕ → Parsed (Option Tree)
@@ -98,8 +93,8 @@ module _ (alternated : Bool) (ks : List Kind) (at id : ℕ) (o : Option Tree) (n
       go (got t q) z = omega arith
       go (refused r) z = z
 
-  sized-onward : Onward (Sized alternated ks at id o n)
-  sized-onward = record { from = λ s e p. rw (sized-is s e p) (go s e p (leb (p + n * 8) e)) }
+  sized-forward : Forward (Sized alternated ks at id o n)
+  sized-forward = record { from = λ s e p. rw (sized-is s e p) (go s e p (leb (p + n * 8) e)) }
     where
       on : (p : ℕ) (x : Parsed (Option Tree)) → From (p + 1) x → From p x
       on p (got t q) z = omega arith
@@ -111,15 +106,7 @@ module _ (alternated : Bool) (ks : List Kind) (at id : ℕ) (o : Option Tree) (n
 
   -- the payload does not hold it
   over : (s : List ℕ) (e p : ℕ) → p ≤ e → e < p + n * 8 → Cut ofPayload (Sized alternated ks at id o n) s e p (truncated context.element p (n * 8) (e - p))
-  over s e p l h = atEnd refl (omega arith) (λ t e′ i j. rw (sized-is t e′ p) (go t e′ j (leb (p + n * 8) e′) refl))
-    where
-      go : (t : List ℕ) (e′ : ℕ) → e ≤ e′ → (b : Bool) → leb (p + n * 8) e′ ≡ b
-          → Eased (truncated context.element p (n * 8) (e - p)) (e′ - e) (cond b (closed t p) (refused (truncated context.element p (n * 8) (e′ - p))))
-      go t e′ j true k = let m : p + n * 8 ≤ e′ = leb-true _ _ k in record { short = λ q. absurd (omega arith); enough = λ q. closed-from t p }
-      go t e′ j false k =
-          let m : e′ < p + n * 8 = leb-false _ _ k in
-          let same : n * 8 - (e′ - p) ≡ n * 8 - (e - p) - (e′ - e) = omega arith in
-          record { short = λ q. ap (λ m. refused (record { number = 1; context = context.element; place = p; missing = m })) same; enough = λ q. absurd (omega arith) }
+  over s e p l h = atEnd refl (omega arith) (λ t e′ i j. rw (sized-is t e′ p) (eased context.element p (n * 8) e e′ l h j (closed t p) (closed-from t p)))
 
   module _ (s : List ℕ) (e p : ℕ) (l : p ≤ e)
       (told : (r : Refusal) → p + n * 8 ≤ e → Cut ofElement (Inside alternated ks at id o) s (p + n * 8) p r → Inside alternated ks at id o s (p + n * 8) p ≡ refused r → ElementCut s e r) where
@@ -160,16 +147,16 @@ module _ (alternated : Bool) (ks : List Kind) where
   unfolding element elementSize mapP _>>=_ here
   element-is o s e p = then-got (read 4 context.element-id s e p) _ _ (λ id q. map-then (variableBits 4 3 context.element-size s e q) _ _)
 
-  named-onward : (at : ℕ) (o : Option Tree) (id : ℕ) → Onward (Named at o id)
-  named-onward at o id = onwards (variable {K = ofPayload} 4 3 context.element-size refl .onward) (λ v. sized-onward alternated ks at id o (v + 1) (omega arith))
+  named-forward : (at : ℕ) (o : Option Tree) (id : ℕ) → Forward (Named at o id)
+  named-forward at o id = forwards (variable {K = ofPayload} 4 3 context.element-size refl .forward) (λ v. sized-forward alternated ks at id o (v + 1) (omega arith))
 
-  element-onward : (o : Option Tree) → Onward (element alternated ks o)
-  element-onward o = record { from = λ s e p. rw (element-is o s e p) (onwards (a-field {K = ofPayload} 4 context.element-id refl .onward) (named-onward p o) .from s e p) }
+  element-forward : (o : Option Tree) → Forward (element alternated ks o)
+  element-forward o = record { from = λ s e p. rw (element-is o s e p) (forwards (a-field {K = ofPayload} 4 context.element-id refl .forward) (named-forward p o) .from s e p) }
 
-  elements-onward : (n : ℕ) (o : Option Tree) → Onward (elements n alternated ks o)
+  elements-forward : (n : ℕ) (o : Option Tree) → Forward (elements n alternated ks o)
   unfolding elements
-  elements-onward zero o = given {K = ofPayload} {b = true} o .onward
-  elements-onward (suc n) o = onwards (element-onward o) (λ t. elements-onward n t)
+  elements-forward zero o = given {K = ofPayload} {b = true} o .forward
+  elements-forward (suc n) o = forwards (element-forward o) (λ t. elements-forward n t)
 
   -- one element more
   elements-last : (n : ℕ) (o : Option Tree) (s : List ℕ) (e p : ℕ) → elements (suc n) alternated ks o s e p ≡ andThen (elements n alternated ks o s e p) (λ t q. element alternated ks t s e q)
@@ -204,8 +191,8 @@ module _ {s : List ℕ} {e first : ℕ} {alternated : Bool} {ks : List Kind} {co
   element-grows : (n : ℕ) → n < count → {o : Option Tree} {p : ℕ} → p ≤ e → elements n alternated ks none s e first ≡ got o p → GrowsAt ofPayload true (element alternated ks o) s e p
   element-grows n c {o} {p} l x =
       carried {m = Element alternated ks p o} (λ t e′ i j. element-is alternated ks o t e′ p)
-      (bound (a-field 4 context.element-id refl .at s e p l) (named-onward alternated ks p o) (λ id q y k.
-      bound (variable 4 3 context.element-size refl .at s e q k) (λ v. sized-onward alternated ks p id o (v + 1) (omega arith)) (λ v start z m.
+      (bound (a-field 4 context.element-id refl .at s e p l) (named-forward alternated ks p o) (λ id q y k.
+      bound (variable 4 3 context.element-size refl .at s e q k) (λ v. sized-forward alternated ks p id o (v + 1) (omega arith)) (λ v start z m.
       sized-grows alternated ks p id o (v + 1) (omega arith) s e start m (told id q v start y z))))
     where
       told : (id q v start : ℕ) → read 4 context.element-id s e p ≡ got id q → variableBits 4 3 context.element-size s e q ≡ got v start
@@ -218,7 +205,7 @@ module _ {s : List ℕ} {e first : ℕ} {alternated : Bool} {ks : List Kind} {co
   unfolding elements
   elements-grow zero n c {o} {p} l x = given o .at s e p l
   elements-grow (suc m) n c {o} {p} l x =
-      bound (element-grows n (omega arith) l x) (λ t. elements-onward alternated ks m t) (λ t q y k.
+      bound (element-grows n (omega arith) l x) (λ t. elements-forward alternated ks m t) (λ t q y k.
       elements-grow m (suc n) (omega arith) k (elements-last alternated ks n none s e first ∙ rw x y))
 
 at-last : (o : Option Tree) → Closing (present o)
@@ -241,24 +228,24 @@ versions : Grows ofPayload true version
 unfolding version
 versions = search (growing, extension) depth 12
 
-counted-onward : (alternated : Bool) (ks : List Kind) (n : ℕ) → Onward (elements n alternated ks none >>= λ t. padding context.payload-padding >> present t)
-counted-onward alternated ks n = onwards (elements-onward alternated ks n none) (λ t. ending t .onward)
+counted-forward : (alternated : Bool) (ks : List Kind) (n : ℕ) → Forward (elements n alternated ks none >>= λ t. padding context.payload-padding >> present t)
+counted-forward alternated ks n = forwards (elements-forward alternated ks n none) (λ t. ending t .forward)
 
-flagged-onward : (ks : List Kind) (alternated : Bool) → Onward (elementCount >>= λ n. elements n alternated ks none >>= λ t. padding context.payload-padding >> present t)
-flagged-onward ks alternated = onwards (counting .onward) (counted-onward alternated ks)
+flagged-forward : (ks : List Kind) (alternated : Bool) → Forward (elementCount >>= λ n. elements n alternated ks none >>= λ t. padding context.payload-padding >> present t)
+flagged-forward ks alternated = forwards (counting .forward) (counted-forward alternated ks)
 
-body-onward : (ks : List Kind) → Onward (body ks)
+body-forward : (ks : List Kind) → Forward (body ks)
 unfolding body
-body-onward ks = onwards (a-flag {K = ofPayload} context.alternate-object-data-flag refl .onward) (flagged-onward ks)
+body-forward ks = forwards (a-flag {K = ofPayload} context.alternate-object-data-flag refl .forward) (flagged-forward ks)
 
 -- A payload that is cut: its own end cuts it, and more bits ease that; or the end of an element in it cuts, and more bits behind the payload change nothing.
 pub longer : (s : List ℕ) (e : ℕ) → GrowsAt ofPayload false payload s e 0
 unfolding payload body _>>_ _>>=_ elements pure
 longer s e =
     carried {m = version >>= λ x. (objectCount >>= assignment) >>= body} (λ t e′ i j. refl)
-    (bound (versions .at s e 0 (omega arith)) (λ x. onwards (kinds .onward) body-onward) (λ x kindsAt v k.
-    bound (kinds .at s e kindsAt k) body-onward (λ ks flagAt w l.
-    bound (a-flag context.alternate-object-data-flag refl .at s e flagAt l) (flagged-onward ks) (λ alternated countAt f m.
-    bound (counting .at s e countAt m) (counted-onward alternated ks) (λ n first c o.
-    bound (elements-grow (record { kindsAt = kindsAt; flagAt = flagAt; countAt = countAt; version-there = v; kinds-there = w; flag-there = f; count-there = c }) n 0 (omega arith) o refl) (λ t. ending t .onward) (λ t q y i.
+    (bound (versions .at s e 0 (omega arith)) (λ x. forwards (kinds .forward) body-forward) (λ x kindsAt v k.
+    bound (kinds .at s e kindsAt k) body-forward (λ ks flagAt w l.
+    bound (a-flag context.alternate-object-data-flag refl .at s e flagAt l) (flagged-forward ks) (λ alternated countAt f m.
+    bound (counting .at s e countAt m) (counted-forward alternated ks) (λ n first c o.
+    bound (elements-grow (record { kindsAt = kindsAt; flagAt = flagAt; countAt = countAt; version-there = v; kinds-there = w; flag-there = f; count-there = c }) n 0 (omega arith) o refl) (λ t. ending t .forward) (λ t q y i.
     ending t .at s e q i))))))

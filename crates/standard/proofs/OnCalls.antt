@@ -33,7 +33,7 @@ pub record FramesMeet (S R : Row → Row → Type 0) (n m : ℕ) (x y : Lent) : 
   pub blocks : Pairs R (rowsOf (m * n) (x .blocks)) (rowsOf (m * n) (y .blocks))
 
 pub record CallsMeet (S R : Row → Row → Type 0) (x y : Done) : Type 0 where
-  pub verdict : x .answer .verdict ≡ y .answer .verdict  -- number, context, place
+  pub verdict : x .answer .verdict ≡ y .answer .verdict  -- number, context, place, missing bits
   pub objects : x .answer .objects ≡ y .answer .objects
   pub blocks : x .answer .blocks ≡ y .answer .blocks
   pub frames : FramesMeet S R (x .answer .objects) (x .answer .blocks) (x .lent) (y .lent)

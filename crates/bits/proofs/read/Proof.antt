@@ -35,4 +35,4 @@ returns-2 c = rw (read-skip, ← (c .before .before .before .skip .ensures _), c
 
 pub read-spec : {M : Type 1} → statement M
 read-spec =
-    tie.close (tie.spec (λ c κs. search needs) (λ c. search needs) bits-from-requires (λ c. search needs) returns returns-2)
+    tie.close (tie.spec (λ c. search needs) (λ c κs. search needs) (λ c. search needs) bits-from-requires (λ c. search needs) returns returns-2)

@@ -29,4 +29,4 @@ returns-3 c s =
 
 pub skip-spec : {M : Type 1} → statement M
 skip-spec =
-    tie.close (tie.spec (λ c κs. search needs) returns (λ c κs. search needs) returns-2 (λ c. search needs) returns-3)
+    tie.close (tie.spec (λ c κs. search needs) returns (λ c. search needs) (λ c κs. search needs) returns-2 (λ c. search needs) returns-3)

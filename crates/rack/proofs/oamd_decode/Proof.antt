@@ -2,7 +2,7 @@
 use native.Mathlib.Omega.{arith}
 use borrow.Author.Needs.{needs}
 use Rattle.standard.specs.Numbers.{payloadLimit}
-use Rattle.rack.proofs.Promised.{left-twin, place-small, missing-small}
+use Rattle.rack.proofs.Promised.{left-twin, place-small}
 use Rattle.rack.proofs.oamd_decode.Statement.{statement}
 use Rattle.rack.proofs.oamd_decode.Tie as tie
 
@@ -13,18 +13,12 @@ cast-place c =
     let k = place-small _ _ (f .before .before .before .before .before .before .before .decode .ensures) (f .refusal .given .1) in
     omega arith
 
-cast-missing : tie.Need-cast-t22
-cast-missing c =
-    let f = c .before .before .before .before in
-    let k = missing-small _ _ (f .before .before .before .before .before .before .before .decode .ensures) (f .refusal .given .1) in
-    omega arith
-
 returns : tie.Need-returns
 returns c = let f = c .before .before in left-twin (f .before .before .before .before .before .before .before .decode .ensures) (f .frame .given .1)
 
 returns-2 : tie.Need-returns-2
 returns-2 c =
-    let f = c .before .before .before .before .before .before in
+    let f = c .before .before .before .before .before in
     left-twin (f .before .before .before .before .before .before .before .decode .ensures) (f .refusal .given .1)
 
 returns-3 : tie.Need-returns-3
@@ -39,7 +33,6 @@ oamd-decode-spec =
     (λ c. search needs)
     (λ c. search needs)
     cast-place
-    cast-missing
     (λ c. search needs)
     (λ c. search needs)
     (λ c. search needs)

@@ -3,11 +3,16 @@ use borrow.Author.Needs.{needs}
 use borrow.Author.Tests.{ne-eqb}
 use lib.ListN.{length-map}
 use Rattle.bits.specs.Parsed.{pure}
+use Rattle.standard.specs.Numbers.{objectLimit}
 use Rattle.rows.specs.Kinds.{kindOf}
 use Rattle.oamd.specs.Frame.{contentIn}
 use Rattle.oamd.proofs.ElementsFraming.{unwritten}
 use Rattle.oamd.proofs.content.parse_content.Statement.{statement}
 use Rattle.oamd.proofs.content.parse_content.Tie as tie
+
+few : tie.Need-cast-parse-trim-content
+unfolding objectLimit
+few c = search needs
 
 objects : tie.Need-returns
 unfolding contentIn
@@ -30,6 +35,7 @@ parse-content-spec =
     tie.close
     (tie.spec
     (λ c κs. search needs)
+    few
     (λ c κs. search needs)
     (λ c. search needs)
     (λ c. search needs)

@@ -22,7 +22,7 @@ sized c =
 cut-element : tie.Need-returns
 unfolding elementEnd elementSize mapP _>>=_ _>>_ refuse here theEnd require
 cut-element c =
-    let l = c .before .before .before in
+    let l = c .before .before .before .before in
     let b = l .before .before .before .before in
     let z = b .before .before in
     rw (← (z .before .before .read-variable-bits-max .ensures), z .size-bits .given .1, ← (b .bits .ensures), lt-leb _ _ (l .if1 .taken), c .truncated .ensures)
@@ -49,7 +49,9 @@ read-element-end-spec =
     (λ c. search needs)
     (λ c κs. search needs)
     (λ c. omega (arith, sized (c .before .before .before .before)))
-    (λ c. omega (arith, sized (c .before .before .before .before .before .before .before .before)))
+    (λ c. omega (arith, sized (c .before .before .before .before .before .before .before)))
+    (λ c. omega (arith, sized (c .before .before .before .before .before .before .before .before .before)))
+    (λ c. search needs)
     (λ c κs. search needs)
     cut-element
     cut-size

@@ -8,7 +8,8 @@ use native.Mathlib.Omega.{arith}
 use lib.Dec.{leb, eqb}
 use borrow.Author.Tests.{le-leb, leb-true, leb-false}
 use Rattle.bits.specs.Bits.{bitAt, field}
-use Rattle.bits.specs.Parsed.{Refusal, Parsed, got, refused, Parser, andThen, mapParsed, insteadOf, _>>=_, _>>_, mapP, pure, refuse, refusedAs, times, optional, each, here, require, placedAt, placed, truncated, invalid}
+use Rattle.bits.specs.Parsed.{Refusal, Parsed, got, refused, Parser, andThen, insteadOf, _>>=_, _>>_, mapP, pure, refuse, refusedAs, times, optional, each, here, require, placedAt, placed, truncated, invalid}
+use Rattle.bits.proofs.ParsedLaws.{then-pure}
 use Rattle.bits.proofs.Padding.{FirstSet, Zeros, padding-tells}
 use Rattle.bits.specs.Reads.{read, flag, skip, zeros, padding, readSigned}
 
@@ -41,6 +42,10 @@ module _ {A : Type 0} where
   abbrev pub From : ℕ → Parsed A → Type 0
   From p (got a q) = p ≤ q
   From p (refused r) = r .number ≡ 1 → p ≤ r .place
+
+  pub from-earlier : {p q : ℕ} → p ≤ q → (x : Parsed A) → From q x → From p x
+  from-earlier l (got a q′) h = omega arith
+  from-earlier l (refused r) h = λ i. let k = h i in omega arith
 
   -- the answer with k bits more: as long as they are fewer than were missing the cut stays where it is, and then nothing up to there is cut
   pub record Eased (r : Refusal) (k : ℕ) (x : Parsed A) : Type 0 where
@@ -90,11 +95,7 @@ pub record Grows {A : Type 0} (K : Stretch) (b : Bool) (m : Parser A) : Type 0 w
 
 module _ {A B : Type 0} where
   then-from : (p : ℕ) (x : Parsed A) (k : A → ℕ → Parsed B) → From p x → ((a : A) (q : ℕ) → From q (k a q)) → From p (andThen x k)
-  then-from p (got a q) k l f = go (k a q) (f a q)
-    where
-      go : (y : Parsed B) → From q y → From p y
-      go (got b q′) z = omega arith
-      go (refused r) z = λ h. let i = z h in omega arith
+  then-from p (got a q) k l f = from-earlier l (k a q) (f a q)
   then-from p (refused r) k l f = l
 
   then-eased : (r : Refusal) (n : ℕ) (x : Parsed A) (k : A → ℕ → Parsed B) → ((a : A) (q : ℕ) → From q (k a q)) → Eased r n x → Eased r n (andThen x k)
@@ -192,11 +193,7 @@ module _ {A : Type 0} {K : Stretch} {b : Bool} where
 module _ {A B : Type 0} {K : Stretch} where
   pub mapped : (f : A → B) {m : Parser A} → Grows K true m → Grows K true (mapP f m)
   unfolding mapP _>>=_ pure
-  mapped f {m} g = equal {m = m >>= (λ a. pure (f a))} (λ s e p. go (m s e p)) (bind g (λ a. given (f a)))
-    where
-      go : (x : Parsed A) → mapParsed f x ≡ andThen x (λ a q. got (f a) q)
-      go (got a q) = refl
-      go (refused r) = refl
+  mapped f {m} g = equal {m = m >>= (λ a. pure (f a))} (λ s e p. sym (then-pure (m s e p) f)) (bind g (λ a. given (f a)))
 
 module _ {K : Stretch} where
   pub placing : {A : Type 0} {m : Parser A} → Grows K true m → Grows K true (placed m)

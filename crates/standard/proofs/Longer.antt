@@ -8,9 +8,9 @@ use native.Mathlib.Omega.{arith}
 use lib.Dec.{leb, eqb}
 use borrow.Author.Tests.{le-leb}
 use Rattle.bits.specs.Bits.{field}
-use Rattle.bits.specs.Parsed.{Refusal, Parsed, got, refused, Parser, _>>=_, _>>_, mapP, pure, refuse, here, require, unsupported}
+use Rattle.bits.specs.Parsed.{Refusal, refused, Parser, _>>=_, _>>_, mapP, pure, refuse, here, require, unsupported}
 use Rattle.bits.specs.Reads.{read, flag, extended, skipBytes, laterGroups, variableBits}
-use Rattle.bits.proofs.Growing.{Alike, alike-itself, alike-field, From, Stretch, GrowsAt, Grows, carried, bind, next, mapped, from-here, choose, given, refusing, recast, Uncut, never, a-field, a-flag, Closing, gives, padded, growing}
+use Rattle.bits.proofs.Growing.{Alike, alike-itself, alike-field, From, from-earlier, Stretch, GrowsAt, Grows, carried, bind, next, mapped, from-here, choose, given, refusing, recast, Uncut, never, a-field, a-flag, Closing, gives, padded, growing}
 use Rattle.standard.specs.Contexts as context
 use Rattle.standard.specs.Tree.{Kind, Tree}
 use Rattle.standard.specs.Updates.{gainWord, priorityWord, basic, differential, absolutely, distance, positionWord, zoneWord, sizeWord, screenWord, groups, render, status, activeUpdate, tableData, update, object}
@@ -113,11 +113,7 @@ module _ (alternated : Bool) (ks : List Kind) (at id : ℕ) (o : Option Tree) wh
   inside-from s e p l = go (opened alternated (content ks at id o) s e p l)
     where
       go : Opened alternated (content ks at id o) s e p → From (p + 1) (Inside alternated ks at id o s e p)
-      go (through q h k f) = rw (f s e (alike-itself e s) (omega arith)) (on (content ks at id o s e q) (in-element ks at id o .forward .from s e q))
-        where
-          on : (x : Parsed (Option Tree)) → From q x → From (p + 1) x
-          on (got a q′) z = omega arith
-          on (refused r) z = λ i. let y = z i in omega arith
+      go (through q h k f) = rw (f s e (alike-itself e s) (omega arith)) (from-earlier (omega arith) (content ks at id o s e q) (in-element ks at id o .forward .from s e q))
       go (stopped r u f) = rw (f s e (alike-itself e s) (omega arith)) (λ i. absurd (never r u i))
 
   pub inside-grows : (s : List ℕ) (e p : ℕ) → p + 8 ≤ e → GrowsAt ofElement false (Inside alternated ks at id o) s e p

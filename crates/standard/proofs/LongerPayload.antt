@@ -10,7 +10,7 @@ use borrow.Author.Tests.{le-leb, leb-true, leb-false}
 use Rattle.bits.specs.Parsed.{Refusal, Parsed, got, refused, Parser, andThen, _>>=_, _>>_, mapP, pure, refuse, within, here, theEnd, goTo, require, truncated, invalid}
 use Rattle.bits.specs.Reads.{read, flag, padding, variableBits}
 use Rattle.bits.proofs.ParsedLaws.{then-got, map-then, then-then}
-use Rattle.bits.proofs.Growing.{Alike, alike-before, less-none, From, Eased, eased, Stretch, Cut, atEnd, inside, Grown, GrowsAt, Forward, Grows, forwards, carried, bound, given, a-field, a-flag, Closing, refuses, padded, growing}
+use Rattle.bits.proofs.Growing.{Alike, alike-before, less-none, From, from-earlier, Eased, eased, Stretch, Cut, atEnd, inside, Grown, GrowsAt, Forward, Grows, forwards, carried, bound, given, a-field, a-flag, Closing, refuses, padded, growing}
 use Rattle.standard.specs.Contexts as context
 use Rattle.standard.specs.Tree.{Kind, Tree}
 use Rattle.standard.specs.Assignment.{version, objectCount, onlyDynamic, oneBed, beds, isfs, dynamics, contents, assignment}
@@ -96,12 +96,8 @@ module _ (alternated : Bool) (ks : List Kind) (at id : ℕ) (o : Option Tree) (n
   sized-forward : Forward (Sized alternated ks at id o n)
   sized-forward = record { from = λ s e p. rw (sized-is s e p) (go s e p (leb (p + n * 8) e)) }
     where
-      on : (p : ℕ) (x : Parsed (Option Tree)) → From (p + 1) x → From p x
-      on p (got t q) z = omega arith
-      on p (refused r) z = λ i. let y = z i in omega arith
-
       go : (s : List ℕ) (e p : ℕ) (b : Bool) → From p (cond b (closed s p) (refused (truncated context.element p (n * 8) (e - p))))
-      go s e p true = on p (closed s p) (closed-from s p)
+      go s e p true = from-earlier (omega arith) (closed s p) (closed-from s p)
       go s e p false = λ i. omega arith
 
   -- the payload does not hold it

@@ -1,7 +1,7 @@
 /*
  * Cepokaran: a decoder for the object metadata (OAMD) of E-AC-3, for C.
  *
- * Eight calls over tables that the caller lends. No call allocates, keeps a pointer, prints or has
+ * Nine calls over tables that the caller lends. No call allocates, keeps a pointer, prints or has
  * state of its own: everything that a decoder remembers lies in the table `retained`. So one
  * `retained` table is one decoder, and calls on tables of their own may run at the same time.
  *
@@ -10,8 +10,8 @@
  * check:
  *
  *   - A pointer is non-null and aligned for its type, also where its length is 0.
- *   - A length counts numbers, not bytes (for the payload the two are the same). As many lie behind
- *     the pointer, in one object, and are initialised.
+ *   - A length counts numbers, not bytes (for a payload, a container and a buffer the two are the same).
+ *     As many lie behind the pointer, in one object, and are initialised.
  *   - What a call may write (a pointer without `const`) overlaps nothing else that the call is given,
  *     and nobody else reads or writes it meanwhile. What it only reads does not change meanwhile.
  *
@@ -20,7 +20,8 @@
  * and missing bits say more. A table may be longer than needed: what lies behind the needed length never
  * changes.
  *
- * examples/c/rack_loop.c is a rack's loop over these calls.
+ * examples/c/rack_loop.c is a rack's loop over these calls, and examples/c/containers.c takes payloads
+ * out of a recorder's file.
  */
 #ifndef CEPOKARAN_H
 #define CEPOKARAN_H
@@ -35,11 +36,12 @@ extern "C" {
 /* ---- Sizes ----------------------------------------------------------------------------------- */
 
 enum {
-    CEPOKARAN_ROW_WIDTH = 15,       /* numbers in a row */
-    CEPOKARAN_OBJECT_LIMIT = 128,   /* objects in a frame, at most */
-    CEPOKARAN_BLOCK_LIMIT = 8,      /* blocks in a frame, at most */
-    CEPOKARAN_FRAME_LENGTH = 1536,  /* samples in a frame */
-    CEPOKARAN_PAYLOAD_LIMIT = 16384 /* bytes in a payload, at most */
+    CEPOKARAN_ROW_WIDTH = 15,         /* numbers in a row */
+    CEPOKARAN_OBJECT_LIMIT = 128,     /* objects in a frame, at most */
+    CEPOKARAN_BLOCK_LIMIT = 8,        /* blocks in a frame, at most */
+    CEPOKARAN_FRAME_LENGTH = 1536,    /* samples in a frame */
+    CEPOKARAN_PAYLOAD_LIMIT = 16384,  /* bytes in a payload, at most */
+    CEPOKARAN_CONTAINER_LIMIT = 65536 /* bytes in a container, at most */
 };
 
 /* A retained table begins with the object count and the doubt. */
@@ -92,14 +94,17 @@ enum cepokaran_number {
     CEPOKARAN_INVALID = 2,     /* the payload says what may not be said */
     CEPOKARAN_LIMIT = 3,       /* the payload passes a limit of the format */
     CEPOKARAN_UNSUPPORTED = 4, /* the payload says what this decoder does not take */
-    CEPOKARAN_ROOM = 5,        /* a table is shorter than needed */
+    CEPOKARAN_ROOM = 5,        /* a table, or the buffer for a payload, is shorter than needed */
     CEPOKARAN_FORM = 6,        /* out of form: the retained table, or the row that is asked for */
-    CEPOKARAN_SIZE = 7,        /* the payload is longer than CEPOKARAN_PAYLOAD_LIMIT */
+    CEPOKARAN_SIZE = 7,        /* the payload, or the container, is longer than its limit */
     CEPOKARAN_ORDERING = 8,    /* timings: a start falls below the one before it */
     CEPOKARAN_OVERLAP = 9,     /* timings: a block starts before the one before it has ended */
     CEPOKARAN_CROSS_FRAME = 10,/* timings: a start or an end lies behind the frame */
     CEPOKARAN_QUERY = 11,      /* asked of a sample over 1,535 or of more than 8 blocks */
-    CEPOKARAN_INDEX = 12       /* the row lies outside its table */
+    CEPOKARAN_INDEX = 12,      /* the row lies outside its table */
+    CEPOKARAN_ENDS_EARLY = 13, /* the container ends too early */
+    CEPOKARAN_VERSION = 14,    /* the container is not of version 0 */
+    CEPOKARAN_NO_OBJECT = 15   /* the container has no object payload */
 };
 
 /* ---- The retained table ---------------------------------------------------------------------- */
@@ -186,6 +191,26 @@ uint32_t oamd_decode(const uint8_t *payload, size_t payload_len,
                      int16_t *blocks, size_t blocks_len,
                      uint16_t *timings, size_t timings_len,
                      uint32_t answer[CEPOKARAN_ANSWER_LENGTH]);
+
+/* ---- Containers ------------------------------------------------------------------------------ */
+
+/*
+ * Takes the object metadata out of an EMDF container (ETSI TS 102 366, Annex H; docs/CONTAINER.md), which
+ * is given from its version field on.
+ *
+ * Payloads of other kinds are passed over. The first object payload (id 11) is copied to the front of the
+ * buffer, which has room for CEPOKARAN_PAYLOAD_LIMIT bytes at least, and `length` becomes its bytes, 0 to
+ * CEPOKARAN_PAYLOAD_LIMIT: buffer and length are what oamd_decode takes as payload. It may begin within a
+ * byte of the container. What lies behind it in the buffer stays, and what lies behind it in the container
+ * is not read.
+ *
+ * Refused, and the buffer stays and length is 0: ROOM (the buffer), SIZE (the container), then in reading
+ * order ENDS_EARLY, VERSION, SIZE (the object payload, before its bytes are sought), and, once the whole
+ * list was read, NO_OBJECT. That one says that nothing was lost: the frame has no object metadata. After
+ * the others give a gap notice, since a payload may have been missed.
+ */
+uint32_t oamd_emdf(const uint8_t *container, size_t container_len, uint8_t *buffer, size_t buffer_len,
+                   uint32_t *length);
 
 /* ---- Timings and ramps ----------------------------------------------------------------------- */
 

@@ -3,7 +3,7 @@ use Prim.Native.Nat.{ℕ}
 use mathlib.Core.Path.{_≡_, refl, ap}
 use mathlib.Core.List.{List}
 use native.Mathlib.Omega.{arith}
-use Rattle.bits.specs.Parsed.{Refusal, Parsed, got, refused, Parser, andThen, mapParsed, placed}
+use Rattle.bits.specs.Parsed.{Refusal, Parsed, got, refused, Parser, andThen, mapParsed, insteadOf, placed}
 use Rattle.bits.proofs.Always.{Ok}
 
 pub then-got : {A B : Type 0} (x : Parsed A) (f g : A → ℕ → Parsed B) → ((a : A) (q : ℕ) → f a q ≡ g a q) → andThen x f ≡ andThen x g
@@ -39,6 +39,14 @@ module _ {A B : Type 0} where
   pub map-such : (P : A → Type 0) (x : Parsed A) (f g : A → B) → Ok P x → ((a : A) → P a → f a ≡ g a) → mapParsed f x ≡ mapParsed g x
   map-such P (got a q) f g p h = ap (λ b. got b q) (h a p)
   map-such P (refused r) f g p h = refl
+
+-- a refusal that stands for each of a reading's
+module _ {A : Type 0} (r : Refusal) where
+  pub instead-then : {B : Type 0} (x : Parsed A) (k : A → ℕ → Parsed B) → insteadOf r (andThen x k) ≡ andThen (insteadOf r x) (λ a q. insteadOf r (k a q))
+  instead-then x k = elim x [ got a q ↦ refl | refused r′ ↦ refl ]
+
+  pub instead-twice : (r′ : Refusal) (x : Parsed A) → insteadOf r (insteadOf r′ x) ≡ insteadOf r x
+  instead-twice r′ x = elim x [ got a q ↦ refl | refused r″ ↦ refl ]
 
 -- what is made of a word alone does not see its place
 pub placed-word : {A B : Type 0} (f : A → B) (m : Parser A) (s : List ℕ) (e p : ℕ) → mapParsed (λ w. f (w .word)) (placed m s e p) ≡ mapParsed f (m s e p)

@@ -7,7 +7,7 @@ use native.Mathlib.Omega.{arith}
 use lib.Dec.{leb}
 use borrow.Author.Tests.{leb-true, leb-false}
 use Rattle.bits.specs.Bits.{field}
-use Rattle.bits.specs.Parsed.{Refusal, Parsed, got, refused, Parser, andThen, mapParsed, insteadOf, _>>=_, mapP, pure, refuse, refusedAs, truncated}
+use Rattle.bits.specs.Parsed.{Refusal, Parsed, got, refused, Parser, andThen, mapParsed, insteadOf, _>>=_, _>>_, mapP, pure, refuse, refusedAs, require, truncated}
 use Rattle.bits.specs.Reads.{read, flag, skip, readSigned}
 
 -- of the bytes, the end, the place and the answer there
@@ -112,3 +112,32 @@ module _ {A B : Type 0} where
       go : (s : List ℕ) (e p : ℕ) (x : Parsed A) → Onward s e p x → Onward s e p (andThen x (λ a q. f a s e q))
       go s e p (got a q) (l, k) = from s e p q (f a s e q) l k (g a .tells s e q)
       go s e p (refused r) k = tt
+
+  -- .. or from where no further past the end
+  pub along : {m : Parser A} (f : A → Parser B) → Tells Within m → ((a : A) → Tells Within (f a)) → Tells Within (m >>= f)
+  unfolding _>>=_
+  along {m} f h g = record { tells = λ s e p. go s e p (m s e p) (h .tells s e p) }
+    where
+      on : (e p q : ℕ) (s : List ℕ) (x : Parsed B) → p ≤ q → q - e ≤ p - e → Within s e q x → Within s e p x
+      on e p q s (got b q′) l h k = omega arith
+      on e p q s (refused r) l h k = tt
+
+      go : (s : List ℕ) (e p : ℕ) (x : Parsed A) → Within s e p x → Within s e p (andThen x (λ a q. f a s e q))
+      go s e p (got a q) (l, k) = on e p q s (f a s e q) l k (g a .tells s e q)
+      go s e p (refused r) k = tt
+
+  pub next : {m : Parser A} {n : Parser B} → Tells Within m → Tells Within n → Tells Within (m >> n)
+  unfolding _>>=_ _>>_
+  next {m} {n} h g = record { tells = along (λ a. n) h (λ a. g) .tells }
+
+  pub made : (f : A → B) {m : Parser A} → Tells Within m → Tells Within (mapP f m)
+  unfolding mapP
+  made f {m} h = record { tells = λ s e p. go s e p (m s e p) (h .tells s e p) }
+    where
+      go : (s : List ℕ) (e p : ℕ) (x : Parsed A) → Within s e p x → Within s e p (mapParsed f x)
+      go s e p (got a q) k = k
+      go s e p (refused r) k = tt
+
+pub required : (b : Bool) (r : Refusal) → Tells Within (require b r)
+unfolding require
+required b r = chosen b (stays tt) (refuses r)

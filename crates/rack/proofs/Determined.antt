@@ -4,9 +4,10 @@ use mathlib.Core.Path.{_≡_, sym, _∙_}
 use mathlib.Core.List.{List}
 use lib.Ieee.{Float}
 use denote.Ref.{now}
-use Rattle.standard.specs.Calls.{Lent, Done, Kept, RampAnswer, ShownAnswer}
+use Rattle.standard.specs.Calls.{Lent, Done, Kept, RampAnswer, ShownAnswer, Taken}
 use Rattle.rows.proofs.Determined.{Determines, programme-start-determined, reset-determined, gap-determined}
 use Rattle.oamd.specs.Promises.{lent}
+use Rattle.emdf.proofs.Determined.{take-determined}
 use Rattle.rack.specs.Twins.{DecodeLeft, answerNumbers, RampLeft, choiceNumbers, ShownLeft, shownFloats, silence}
 use Rattle.rack.proofs.oamd_decode.Reads as decode
 use Rattle.rack.proofs.oamd_start.Reads as start
@@ -16,6 +17,7 @@ use Rattle.rack.proofs.oamd_timing.Reads as timing
 use Rattle.rack.proofs.oamd_ramp.Reads as ramp
 use Rattle.rack.proofs.oamd_row.Reads as row
 use Rattle.rack.proofs.oamd_shown.Reads as shown
+use Rattle.rack.proofs.oamd_emdf.Reads as emdf
 
 -- Decode: the number, the six answers, and the four tables
 
@@ -89,3 +91,8 @@ showing-is e p = λ i. record { number = p .number i; floats = p .floats i; itsS
 pub oamd-shown-determined : Determines {Seen = Showing} shown.Post
     (λ κs n s. record { number = n; floats = now (s .1 .1 .0); itsSilence = now (s .1 .1 .1 .0) })
 oamd-shown-determined κs a n n′ s s′ p q = showing-is _ p ∙ sym (showing-is _ q)
+
+-- Containers: the number, the length and the buffer, as of the call itself
+
+pub oamd-emdf-determined : Determines {Seen = Taken} emdf.Post (λ κs n s. record { number = n; length = now (s .1 .1 .0); buffer = now (s .1 .0) })
+oamd-emdf-determined = take-determined

@@ -3,6 +3,7 @@ ghost use mathlib.Core.Path.{_≡_};
 ghost use Rattle.standard.specs.Calls as calls;
 ghost use Rattle.rows.specs.Promises as rows;
 ghost use Rattle.oamd.specs.Promises.{lent};
+ghost use Rattle.emdf.specs.Promises as emdf;
 ghost use Rattle.rack.specs.Twins.{DecodeLeft, RampLeft, ShownLeft};
 use oamd::decoder::Decoded;
 use shown::view::Gain;
@@ -147,4 +148,12 @@ pub extern "C" fn oamd_shown(
             number
         }
     }
+}
+
+// The first object payload of a container, at the front of the buffer.
+#[no_mangle]
+pub extern "C" fn oamd_emdf(container: &[u8], buffer: &mut [u8], length: &mut u32) -> u32
+    ensures { λ r. ⌜ emdf.Left (calls.emdfCall (now (container .entry)) (now (buffer .entry))) r (now (length .exit)) (now (buffer .exit)) ⌝ }
+{
+    emdf::take(container, buffer, length)
 }

@@ -4,17 +4,13 @@ use mathlib.Core.Path.{_≡_, sym, _∙_}
 use mathlib.Core.List.{List}
 use lib.IntN.{ℤ}
 use denote.Ref.{now}
+pub use Rattle.bits.proofs.Determines.{Determines}
 use Rattle.standard.specs.Calls.{Kept, PartAnswer}
 use Rattle.rows.specs.Promises.{Left, Handed}
 use Rattle.rows.proofs.calls.programme_start.Reads as programme-start
 use Rattle.rows.proofs.calls.reset.Reads as reset
 use Rattle.rows.proofs.calls.gap.Reads as gap
 use Rattle.rows.proofs.calls.row_part.Reads as row-part
-
--- what is seen of the value v that is given back and of the parameters s at exit follows from the parameters a at entry
-module _ {K : Type 0} {In Given Out : K → Type 0} {Seen : Type 0} where
-  abbrev pub Determines : ((κs : K) → In κs → Given κs → Out κs → Type 0) → ((κs : K) → Given κs → Out κs → Seen) → Type 0
-  Determines Post see = (κs : K) (a : In κs) (v v′ : Given κs) (s s′ : Out κs) → Post κs a v s → Post κs a v′ s′ → see κs v s ≡ see κs v′ s′
 
 abbrev kept : ℕ → List ℤ → Kept
 kept n l = record { number = n; retained = l }

@@ -8,6 +8,7 @@ pub mod ElementCases
 pub mod TableCases
 pub mod RampCases
 pub mod JournalCases
+pub mod ContainerCases
 pub mod ShownValues
 pub mod WrongDecoders
 pub mod Astray

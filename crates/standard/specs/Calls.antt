@@ -7,7 +7,7 @@ use lib.IntN.{ℤ, pos}
 use lib.Ieee.{Float}
 use lib.ListN.{length, take, drop, replicate, set}
 use Rattle.bits.specs.Parsed.{Parsed, got, refused, Refusal}
-use Rattle.standard.specs.Numbers.{doubtAt, rowWidth, blockLimit, retainedLength, startLength, blocksLength, timingsLength, payloadLimit, frameLength, alone}
+use Rattle.standard.specs.Numbers.{doubtAt, rowWidth, blockLimit, retainedLength, startLength, blocksLength, timingsLength, payloadLimit, containerLimit, frameLength, alone}
 use Rattle.standard.specs.Numbers as number
 use Rattle.standard.specs.Tree.{Tree, kindsOf}
 use Rattle.standard.specs.Syntax.{syntax}
@@ -18,6 +18,7 @@ use Rattle.standard.specs.Timing.{timingTest}
 use Rattle.standard.specs.Floats.{nought}
 use Rattle.standard.specs.Ramps.{Choice, choice, fraction}
 use Rattle.standard.specs.Shown.{Shown, shown, nothingShown}
+use Rattle.standard.specs.Container.{container}
 
 module _ {A : Type 0} where
   -- the list l with `new` written over its head
@@ -178,8 +179,30 @@ shownCall l i =
     let n = rowNumber l i in
     record { number = n; shown = cond (eqb n number.accepted) (shown (rowOf (rowPart l i))) nothingShown }
 
+-- Containers: the first object payload's bytes, at the front of a lent buffer
+
+pub record Taken : Type 0 where
+  pub number : ℕ
+  pub length : ℕ
+  pub buffer : List ℕ
+
+-- refused: the buffer stays
+abbrev pub untaken : List ℕ → ℕ → Taken
+untaken b n = record { number = n; length = 0; buffer = b }
+
+unfoldable pub taken : List ℕ → Parsed (List ℕ) → Taken
+taken b (got bytes p) = record { number = number.accepted; length = length bytes; buffer = over bytes b }
+taken b (refused r) = untaken b (r .number)
+
+-- room and size (5, 7) come before the container
+unfoldable pub emdfCall : List ℕ → List ℕ → Taken
+emdfCall s b =
+    cond (leb payloadLimit (length b))
+    (cond (leb (length s) containerLimit) (taken b (container s (length s * 8) 0)) (untaken b number.size))
+    (untaken b number.room)
+
 -- What computing opens
 
 unfoldable pub computed : Unit {0}
-unfolding hasRoom accept decline settle decode renewed programmeStart reset gap timingCall rampCall rowPart rowNumber partCall shownCall
+unfolding hasRoom accept decline settle decode renewed programmeStart reset gap timingCall rampCall rowPart rowNumber partCall shownCall taken emdfCall
 computed = tt

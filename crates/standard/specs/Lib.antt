@@ -12,6 +12,7 @@ pub mod Timing
 pub mod Floats
 pub mod Ramps
 pub mod Shown
+pub mod Container
 pub mod Calls
 pub mod Journal
 pub mod Events

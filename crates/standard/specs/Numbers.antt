@@ -1,4 +1,4 @@
--- Every size, column, range and limit of the specification, and the numbers of its table that no reading gives, each named once.
+-- Every size, column, range and limit of the specification, and the numbers of its table that no reading of a payload gives, each named once.
 use Prim.Native.Nat.{ℕ, _+_, _*_}
 use lib.IntN.{ℤ, pos, negsuc}
 use Rattle.bits.specs.Parsed.{Refusal}
@@ -128,6 +128,10 @@ middle = 31
 unfoldable pub payloadLimit : ℕ
 payloadLimit = 16384
 
+-- in bytes
+unfoldable pub containerLimit : ℕ
+containerLimit = 65536
+
 unfoldable pub elementLimit : ℕ
 elementLimit = 31
 
@@ -164,6 +168,15 @@ query = 11
 abbrev pub index : ℕ
 index = 12
 
+abbrev pub endsEarly : ℕ
+endsEarly = 13
+
+abbrev pub otherVersion : ℕ
+otherVersion = 14
+
+abbrev pub noObject : ℕ
+noObject = 15
+
 -- a number alone: context 0, place 0, no missing bits
 abbrev pub alone : ℕ → Refusal
 alone n = record { number = n; context = 0; place = 0; missing = 0 }
@@ -171,5 +184,5 @@ alone n = record { number = n; context = 0; place = 0; missing = 0 }
 -- What computing opens
 
 unfoldable pub computed : Unit {0}
-unfolding rowWidth objectLimit blockLimit retainedHead retainedLength startLength blocksLength timingsLength payloadLimit elementLimit frameLength
+unfolding rowWidth objectLimit blockLimit retainedHead retainedLength startLength blocksLength timingsLength payloadLimit containerLimit elementLimit frameLength
 computed = tt

@@ -1,0 +1,5 @@
+pub mod Faithful
+pub mod Outcomes
+pub mod ConfigsBack
+pub mod GivenBack
+pub mod WrittenCases

@@ -12,6 +12,8 @@ mod renderer_rules;
 
 pub mod answer;
 pub mod call;
+pub mod container;
+pub mod container_mistakes;
 pub mod context;
 pub mod form;
 pub mod journal;
@@ -27,6 +29,9 @@ pub mod timing;
 pub mod aim;
 mod assignment;
 mod bits;
+pub mod container_cases;
+pub mod container_cuts;
+pub mod container_writer;
 pub mod fixed;
 pub mod generator;
 mod object_element;

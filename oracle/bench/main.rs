@@ -3,6 +3,8 @@
 //! `bench ROUNDS`: each case is timed ROUNDS times, the two decoders in turn, and the best round of
 //! each counts. It prints nanoseconds for a payload and the ratio, and fails where typical or heavy
 //! payloads take the proved decoder longer.
+//!
+//! Built with `--cfg containers` it also times the call on containers, beside a plain copy.
 
 use oracle::oamd::OamdDecoder;
 use std::hint::black_box;
@@ -10,9 +12,14 @@ use std::process::ExitCode;
 use std::time::{Duration, Instant};
 
 mod cases;
+#[cfg(containers)]
+mod containers;
 #[allow(dead_code)]
 #[path = "../compare/proved.rs"]
 mod proved;
+#[cfg(containers)]
+#[path = "../compare/proved_container.rs"]
+mod proved_container;
 
 use cases::Case;
 use proved::Tables;
@@ -33,6 +40,8 @@ fn main() -> ExitCode {
         let ratio = timed(&case, rounds);
         slower |= case.must_hold && ratio < 1.0;
     }
+    #[cfg(containers)]
+    containers::print(rounds);
     if slower {
         println!("failed: the proved decoder is slower than the Rust");
     }

@@ -1,5 +1,5 @@
 //! Shows that the comparison can fail: wrong numbers, one of each sort, a wrong decoder of longer payloads,
-//! and wrong models of the marks.
+//! wrong models of the marks, and wrong readers of containers.
 
 use crate::appended::Fault;
 use crate::heard_all::{Breach, Wrong, BREACHES};
@@ -36,6 +36,7 @@ pub fn falsify(seed: u64) -> bool {
         .map(|breach| breached(seed, *breach))
         .collect();
     report_views(seed)
+        & report_containers(seed)
         & report("wrong numbers", &spoils, &numbers)
         & report(
             "numbers wrongly heard by the other decoder",
@@ -68,6 +69,37 @@ fn report_views(seed: u64) -> bool {
     };
     let found: Vec<bool> = parts.iter().map(found).collect();
     report("wrong numbers of views", &parts, &found)
+}
+
+#[cfg(not(containers))]
+fn report_containers(_seed: u64) -> bool {
+    true
+}
+
+/// Each sort of thing that is expected wrongly once, and each wrong reader.
+#[cfg(containers)]
+fn report_containers(seed: u64) -> bool {
+    use crate::containers::{Containers, Spoil, SPOILS};
+    use oracle::container_mistakes::{Mistake, MISTAKES};
+    let at_once = |spoil: &Spoil| {
+        let mut containers = Containers::new(seed);
+        containers.spoil = Some(*spoil);
+        let found = (0..SEQUENCES).find_map(|_| {
+            let found = containers.case().is_err();
+            let spoiled = containers.spoil.is_none();
+            (found || spoiled).then_some(found && spoiled)
+        });
+        found == Some(true)
+    };
+    let found = |mistake: &Mistake| {
+        let mut containers = Containers::new(seed);
+        containers.mistake = Some(*mistake);
+        (0..SEQUENCES).any(|_| containers.case().is_err())
+    };
+    let spoiled: Vec<bool> = SPOILS.iter().map(at_once).collect();
+    let mistaken: Vec<bool> = MISTAKES.iter().map(found).collect();
+    report("wrong numbers and bytes of containers", &SPOILS, &spoiled)
+        & report("wrong readers of containers", &MISTAKES, &mistaken)
 }
 
 fn report(name: &str, all: &[impl std::fmt::Debug], right: &[bool]) -> bool {

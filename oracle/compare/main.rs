@@ -4,19 +4,26 @@
 //!     seen and fails on a difference, or if too little was seen.
 //! `compare --falsify`: shows that wrong expectations are found.
 //!
-//! Built with `--cfg views` it also compares the calls timing, ramp, row and shown, on drawn tables.
+//! Built with `--cfg views` it also compares the calls timing, ramp, row and shown, on drawn tables, and
+//! built with `--cfg containers` the call on containers, on some that are cut at every byte and on drawn ones.
 
 use oracle::listener::Listener;
 use std::process::ExitCode;
 
 mod appended;
 mod bench;
+#[cfg(containers)]
+mod container_seen;
+#[cfg(containers)]
+mod containers;
 mod difference;
 mod events;
 mod falsify;
 mod heard_all;
 mod lent;
 mod proved;
+#[cfg(containers)]
+mod proved_container;
 mod run;
 mod seen;
 mod spoil;
@@ -67,6 +74,8 @@ fn compare(payloads: u64, seed: u64) -> bool {
     let mut complaints = run.tally.complaints();
     #[cfg(views)]
     complaints.extend(compare_views(payloads, seed));
+    #[cfg(containers)]
+    complaints.extend(compare_containers(payloads, seed));
     for complaint in &complaints {
         println!("failed: {complaint}");
     }
@@ -82,6 +91,23 @@ fn compare_views(cases: u64, seed: u64) -> Option<String> {
         println!("{call} {number}: {times}");
     }
     done.err().map(|difference| difference.to_string())
+}
+
+/// The cut ones, and as many drawn ones as payloads. Answers what is to be complained of.
+#[cfg(containers)]
+fn compare_containers(cases: u64, seed: u64) -> Vec<String> {
+    let mut containers = containers::Containers::new(seed);
+    let done = containers.cuts().and_then(|cut| {
+        println!("containers cut at every byte {cut}");
+        (0..cases).try_for_each(|_| containers.case())
+    });
+    containers.seen.print();
+    let mut complaints = containers.seen.complaints();
+    if let Err((difference, container)) = done {
+        println!("  container {}", hexadecimal(&container));
+        complaints.push(difference.to_string());
+    }
+    complaints
 }
 
 fn hexadecimal(bytes: &[u8]) -> String {

@@ -25,9 +25,15 @@ def compare(name, command, expected, given=None):
     print(f"{name}: {len(printed)} lines, as expected")
 
 
-def tried(name, archive, compiler, options=STRICT, header=HEADER, runner=()):
-    """examples/c/NAME.c, by one line of a C compiler, against examples/c/NAME.expected."""
+def built(name, archive, compiler, options=STRICT, header=HEADER):
+    """examples/c/NAME.c, by one line of a C compiler."""
     program = TOP / "target" / "c" / archive.stem / name
     program.parent.mkdir(parents=True, exist_ok=True)
     run(compiler, *options, EXAMPLES / f"{name}.c", f"-I{header.parent}", archive, "-o", program)
+    return program
+
+
+def tried(name, archive, compiler, options=STRICT, header=HEADER, runner=()):
+    """examples/c/NAME.c, built and run, against examples/c/NAME.expected."""
+    program = built(name, archive, compiler, options, header)
     compare(name, [*runner, program], EXAMPLES / f"{name}.expected")

@@ -143,16 +143,15 @@ class BedAndDynamic:
         bits.put(self.dynamic - 1, 5)
 
 
-def write_size(bits, size):
-    """A size in bytes less 1, in groups of 4 bits: each later group is v x 16 + 16 + next."""
-    groups, value = [], size - 1
-    while value >= 16:
-        value -= 16
-        groups.insert(0, value % 16)
-        value //= 16
-    groups.insert(0, value)
+def write_variable(bits, value, width):
+    """A number in groups of `width` bits, each with a flag for more: a further group makes it
+    (value + 1) x 2^width + group."""
+    groups = [value % 2**width]
+    while value >= 2**width:
+        value = value // 2**width - 1
+        groups.insert(0, value % 2**width)
     for index, group in enumerate(groups):
-        bits.put(group, 4)
+        bits.put(group, width)
         bits.flag(index + 1 < len(groups))
 
 
@@ -188,7 +187,7 @@ class Payload:
         bits.put(1, 4)  # one element
         bits.put(1, 4)  # id: objects
         size = -(-len(element.text) // 8)
-        write_size(bits, size)
+        write_variable(bits, size - 1, 4)
         self.content = len(bits.text)
         bits.text += element.text + "0" * (8 * size - len(element.text))
         self.end = len(bits.text)

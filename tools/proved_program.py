@@ -7,14 +7,19 @@ from crate_list import TOP
 from machine_code import own_part
 
 
-def build(name, program):
-    """Proves and builds the program, unless it is newer than every source file."""
+def is_current(made):
+    """Whether a file that was made is there, and no source file is newer."""
     sources = TOP.glob("crates/*/src/*.rt")
+    return made.exists() and all(source.stat().st_mtime <= made.stat().st_mtime for source in sources)
+
+
+def build(name, program):
+    """Proves and builds the program, unless it is current."""
+    if is_current(program):
+        return
     if not program.exists():
         # Else an unchanged crate would not be built again.
         (TOP / "target" / "stamp" / name).unlink(missing_ok=True)
-    elif all(source.stat().st_mtime <= program.stat().st_mtime for source in sources):
-        return
     run(prover(), "check", name)
     program.touch()
 

@@ -7,6 +7,7 @@ import tempfile
 from at_hand import named_file, prover, run, stop
 from crate_list import TOP
 from machine_code import compiled, own_part
+from proved_program import is_current
 
 NAME = "rack"
 FOLDER = TOP / "target" / "staticlib"
@@ -20,20 +21,33 @@ def named(word):
         return archive if file.read(len(MAGIC)) == MAGIC else stop(f"{word} is not an archive")
 
 
-def chosen(words):
+def chosen(words, otherwise=None):
     """The words before `--archive FILE`, and what gives the archive: that file, or one that is made."""
     if words[-2:-1] == ["--archive"]:
         archive = named(words[-1])
         return words[:-2], lambda: archive
-    return words, made
+    return words, otherwise or made
+
+
+def path(machine):
+    return FOLDER / (f"lib{NAME}.a" if machine == "x86_64" else f"lib{NAME}-{machine}.a")
+
+
+def kept(machine=platform.machine()):
+    """The archive that was made last, unless the code is newer: the prover takes its time, even where
+    nothing has changed."""
+    archive = path(machine)
+    if not is_current(archive):
+        made(machine).touch()
+    return archive
 
 
 def made(machine=platform.machine()):
     """The archive for a machine."""
+    archive = path(machine)
     if machine == "x86_64":
         run(prover(), "staticlib", NAME)
-        return FOLDER / f"lib{NAME}.a"
-    archive = FOLDER / f"lib{NAME}-{machine}.a"
+        return archive
     archive.unlink(missing_ok=True)
     FOLDER.mkdir(parents=True, exist_ok=True)
     with tempfile.TemporaryDirectory() as folder:

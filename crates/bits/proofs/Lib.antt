@@ -1,4 +1,5 @@
 pub mod Always
+pub mod Covered
 pub mod Determines
 pub mod Fields
 pub mod Groups

@@ -1,14 +1,15 @@
--- Zero bits up to the end, a bit at a time.
-use Prim.Native.Nat.{ℕ, zero, suc, _+_, _-_, _≤_, _<_}
+-- Zero bits up to the end, a bit at a time and a field at a time.
+use Prim.Native.Nat.{ℕ, zero, suc, _+_, _-_, _*_, _/_, _^_, _≤_, _<_}
 use mathlib.Core.Bool.{Bool, true, false}
 use mathlib.Core.List.{List}
-use mathlib.Core.Path.{_≡_, refl}
+use mathlib.Core.Path.{_≡_, refl, sym, _∙_}
 use native.Mathlib.Omega.{arith}
 use lib.Dec.{eqb}
 use borrow.Author.Tests.{eq-eqb, ne-eqb, eqb-true, eqb-false}
-use Rattle.bits.specs.Bits.{bitAt}
+use Rattle.bits.specs.Bits.{bitAt, field}
 use Rattle.bits.specs.Parsed.{Refusal, Parsed, got, refused, pure, invalid}
 use Rattle.bits.specs.Reads.{zeros, padding}
+use Rattle.bits.proofs.Covered.{field-top}
 use Rattle.bits.proofs.Tells.{About, Tells}
 
 module _ (c : ℕ) (s : List ℕ) (e p : ℕ) where
@@ -29,6 +30,29 @@ module _ (c : ℕ) (s : List ℕ) (e p : ℕ) where
   padding-refuses h b =
       let k : e - p ≡ suc (e - (p + 1)) = omega arith in
       rw (k, ne-eqb (bitAt s p) 0 b, zeros)
+
+bit-lt : (s : List ℕ) (i : ℕ) → bitAt s i < 2
+unfolding bitAt
+bit-lt s i = omega arith
+
+module _ (c : ℕ) (s : List ℕ) (e p : ℕ) where
+  -- a field of zeros is passed over
+  pub padding-passes : (w : ℕ) → p + w ≤ e → field s p w ≡ 0 → padding c s e p ≡ padding c s e (p + w)
+  unfolding field
+  padding-passes zero h z =
+      let k : p + 0 ≡ p = omega arith in
+      rw k
+  padding-passes (suc w) h z =
+      let k : p + suc w ≡ p + w + 1 = omega arith in
+      rw k (padding-passes w (omega arith) (omega arith) ∙ padding-goes-on c s e (p + w) (omega arith) (omega arith))
+
+  -- in any other field the first 1, with r zeros before it, is refused
+  pub padding-stops : (w r : ℕ) → p + w ≤ e → r < w → field s p w / 2 ^ (w - 1 - r) ≡ 1 → padding c s e p ≡ refused (invalid c (p + r))
+  unfolding field
+  padding-stops w r h l v =
+      let k : suc r + (w - 1 - r) ≡ w = omega arith in
+      let f : field s p r * 2 + bitAt s (p + r) ≡ 1 = sym (field-top s p (suc r) (w - 1 - r)) ∙ rw k v in
+      padding-passes r (omega arith) (omega (arith, bit-lt s (p + r))) ∙ padding-refuses c s e (p + r) (omega arith) (λ z. omega arith)
 
 -- all bits up to the end are 0, or the refusal stands at the first that is 1
 pub record FirstSet (c : ℕ) (s : List ℕ) (e p : ℕ) (r : Refusal) : Type 0 where

@@ -17,6 +17,14 @@ across-bytes : read 10 7 (0x01 ∷ 0x80 ∷ []) 16 6 ≡ got 0x180 16
 unfolding read field bitAt
 across-bytes = refl
 
+across-three : read 17 7 (0xfe ∷ 0x55 ∷ 0xaa ∷ []) 24 7 ≡ got 0x55aa 24
+unfolding read field bitAt
+across-three = refl
+
+no-bits : read 0 7 [] 0 0 ≡ got 0 0
+unfolding read field
+no-bits = refl
+
 cut-field : read 3 7 (0xa0 ∷ []) 8 6 ≡ refused (truncated 7 6 3 2)
 unfolding read
 cut-field = refl

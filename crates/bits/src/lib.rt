@@ -3,16 +3,19 @@ ghost use mathlib.Core.Path.{_≡_};
 ghost use mathlib.Core.List.{List};
 ghost use Prim.Native.Nat.{ℕ, _+_, _*_, _≤_, _<_, _^_};
 ghost use lib.ListN.{getD};
-ghost use Rattle.bits.specs.Bits.{bitAt, field};
+ghost use Rattle.bits.specs.Bits.{field};
 ghost use Rattle.bits.specs.Parsed.{truncated, invalid, limit, unsupported};
 ghost use Rattle.bits.specs.Reads as reads;
 ghost use Rattle.bits.specs.Say.{refusal, said, saidFlag, saidPassed, saidSigned};
 
 mod values;
 
+use values::cut;
 pub use values::is_set;
+use values::least;
 pub use values::two_to;
 use values::with_sign;
+use values::zeros_before;
 
 const MAX_VARIABLE_BITS_GROUPS: usize = 4;
 
@@ -173,21 +176,27 @@ pub fn read(payload: &[u8], limit: BitPlace, at: BitPlace, width: usize, context
     }
 }
 
+// Each byte that the field covers is fetched once, and no other: payloads may lie behind a slow bus.
 fn bits_from(payload: &[u8], from: usize, width: usize) -> u32
     requires { ⌜ (width ≤ 17) × (from + width < 2 ^ 64) ⌝ }
     ensures { λ r. ⌜ r ≡ field (now (payload .entry)) from width ⌝ }
 {
-    let mut value = 0;
-    for bit in 0..width {
-        value = value * 2 + bit_at(payload, from + bit);
+    if width == 0 {
+        return 0;
     }
-    value
-}
-
-fn bit_at(payload: &[u8], place: usize) -> u32
-    ensures { λ r. ⌜ r ≡ bitAt (now (payload .entry)) place ⌝ }
-{
-    ((byte_at(payload, place / 8) >> (7 - place % 8)) % 2) as u32
+    // Counted as `fetched` is, from the first bit of the first byte.
+    let end = from % 8 + width;
+    // Not `fetched - end`, which would wait for the bytes.
+    let behind = 7 - (from + width - 1) % 8;
+    let mut index = from / 8;
+    let mut fetched = 0;
+    let mut value = 0;
+    while fetched < end {
+        value = value * 256 + byte_at(payload, index) as u32;
+        index += 1;
+        fetched += 8;
+    }
+    cut(value, behind, width)
 }
 
 // A limit past the payload reads zero bits there.
@@ -243,15 +252,19 @@ pub fn skip_bytes(
     }
 }
 
+// What is left of each byte is one field. Only in the byte that has a 1 is its place sought.
 pub fn consume_zero_padding(payload: &[u8], limit: BitPlace, at: BitPlace, context: u8) -> Passed
     ensures { λ r. ⌜ saidPassed r ≡ reads.padding context (now (payload .entry)) (limit .0) (at .0) ⌝ }
 {
     let mut place = at.0;
     while place < limit.0 {
-        if bit_at(payload, place) != 0 {
-            return Passed::Refused(Refusal::invalid(context, BitPlace(place)));
+        let width = least(8 - place % 8, limit.0 - place);
+        let rest = bits_from(payload, place, width);
+        if rest != 0 {
+            let set = place + zeros_before(rest, width);
+            return Passed::Refused(Refusal::invalid(context, BitPlace(set)));
         }
-        place += 1;
+        place += width;
     }
     Passed::To(BitPlace(place))
 }

@@ -1,6 +1,6 @@
-// What is made of a value that was read: a number with a sign, and one bit of it.
+// Small functions of numbers: a sign, single bits, bits cut out, the first 1, the lesser of two.
 ghost use mathlib.Core.Path.{_≡_};
-ghost use Prim.Native.Nat.{_<_, _^_};
+ghost use Prim.Native.Nat.{_-_, _/_, _%_, _≤_, _<_, _^_, min};
 ghost use Rattle.bits.specs.Bits.{isSet};
 ghost use Rattle.bits.specs.Reads as reads;
 
@@ -30,4 +30,26 @@ pub fn is_set(value: u32, bit: usize) -> bool
     ensures { λ r. ⌜ r ≡ isSet bit value ⌝ }
 {
     (value >> bit) % 2 == 1
+}
+
+// The `width` bits of a number that stand above its lowest `below`.
+pub fn cut(number: u32, below: usize, width: usize) -> u32
+    requires { ⌜ (below < 32) × (width < 32) ⌝ }
+    ensures { λ r. ⌜ r ≡ number / 2 ^ below % 2 ^ width ⌝ }
+{
+    (number >> below) % two_to(width)
+}
+
+// How many zeros a number of `width` bits has before its first 1.
+pub fn zeros_before(number: u32, width: usize) -> usize
+    requires { ⌜ (0 < number) × ((width ≤ 32) × (number < 2 ^ width)) ⌝ }
+    ensures { λ r. ⌜ (r < width) × (number / 2 ^ (width - 1 - r) ≡ 1) ⌝ }
+{
+    width - (32 - u32::leading_zeros(number) as usize)
+}
+
+pub fn least(a: usize, b: usize) -> usize
+    ensures { λ r. ⌜ r ≡ min a b ⌝ }
+{
+    if a < b { a } else { b }
 }

@@ -94,6 +94,10 @@ impl Bits {
     }
 
     /// The bytes; the last one is filled with zeros.
+    pub fn bytes(&self) -> &[u8] {
+        &self.bytes
+    }
+
     pub fn into_bytes(self) -> Vec<u8> {
         self.bytes
     }

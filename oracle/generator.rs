@@ -3,6 +3,7 @@
 use crate::aim::{aims, Aim};
 use crate::answer::LONGEST_PAYLOAD;
 use crate::assignment::{Assignment, MOST_OBJECTS};
+use crate::bits::Bits;
 use crate::call::Call;
 use crate::journal::Record;
 use crate::payload::{Payload, Purpose};
@@ -18,12 +19,16 @@ pub struct Options {
 
 /// A valid payload of so many objects, an Lfe first and the others Dynamic.
 pub fn payload_of(random: &mut Random, objects: u32) -> Vec<u8> {
+    written_of(random, objects).into_bytes()
+}
+
+/// The same, with its fields.
+pub(crate) fn written_of(random: &mut Random, objects: u32) -> Bits {
     let assignment = Assignment::OnlyDynamic {
         lfe: true,
         count: objects,
     };
-    let payload = Payload::random(random, &assignment, Purpose::Short);
-    payload.assembled().into_bytes()
+    Payload::random(random, &assignment, Purpose::Short).assembled()
 }
 
 pub struct Generator {

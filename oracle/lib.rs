@@ -38,3 +38,4 @@ mod object_element;
 mod payload;
 pub mod random;
 mod spoil;
+pub mod steady;

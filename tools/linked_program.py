@@ -21,19 +21,19 @@ def symbols(archive):
 def chosen(parts, archive):
     """What rustc is told of the parts; a part that is left out is named."""
     there = symbols(archive)
-    given = []
+    given = [word for part in PARTS for word in ("--check-cfg", f"cfg({part})")]
     for part in parts:
         missing = sorted(PARTS[part] - there)
         if missing:
             print(f"left out, since the archive lacks them: {', '.join(missing)}")
-        given += ["--check-cfg", f"cfg({part})"] + ([] if missing else ["--cfg", part])
+        given += [] if missing else ["--cfg", part]
     return given
 
 
-def built(name, archive, *parts):
+def built(name, archive, *parts, called=None):
     """oracle/NAME/main.rs with those of its parts that the archive has calls for, built by rustc alone."""
     oracle_program.build()
-    program = TOP / "target" / name / name
+    program = TOP / "target" / name / (called or name)
     program.parent.mkdir(parents=True, exist_ok=True)
     library = f"oracle={TOP / 'target' / 'oracle' / 'liboracle.rlib'}"
     links = ["--crate-name", name, "--extern", library, "-C", f"link-arg={archive}"]

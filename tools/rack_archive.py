@@ -21,9 +21,10 @@ def named(word):
         return archive if file.read(len(MAGIC)) == MAGIC else stop(f"{word} is not an archive")
 
 
-def chosen(words, otherwise=None):
-    """The words before `--archive FILE`, and what gives the archive: that file, or one that is made."""
-    if words[-2:-1] == ["--archive"]:
+def chosen(words, otherwise=None, option="--archive"):
+    """The words before `--archive FILE`, or another option's file, and what gives the archive: that file, or
+    one that is made."""
+    if words[-2:-1] == [option]:
         archive = named(words[-1])
         return words[:-2], lambda: archive
     return words, otherwise or made

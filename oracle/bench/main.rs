@@ -1,8 +1,8 @@
 //! Times the Rust and the proved decoder on the same payloads. tools/bench builds and runs it.
 //!
 //! `bench ROUNDS`: each case is timed ROUNDS times, the two decoders in turn, and the best round of
-//! each counts. It prints nanoseconds for a payload and the ratio, and fails where typical or heavy
-//! payloads take the proved decoder longer.
+//! each counts. It prints nanoseconds for a payload and the ratio, and fails where typical, heavy or
+//! steady payloads take the proved decoder longer.
 //!
 //! Built with `--cfg containers` it also times the call on containers, beside a plain copy.
 

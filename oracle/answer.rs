@@ -1,11 +1,12 @@
 //! One payload after another through the Rust decoder, answered in the specification's numbers.
 
 use crate::call::Call;
+use crate::notes::{noted, Note};
 use crate::oamd::{OamdDecoder, OamdFrame, OamdParseError};
 use crate::orders::{self, Order};
 pub use crate::row::Row;
 use crate::row::{kind_and_state, kind_number, rows, unmarked};
-use crate::{context, notes, oamd_noting, place};
+use crate::{context, place};
 
 pub const TRUNCATED: u8 = 1;
 pub const INVALID: u8 = 2;
@@ -118,18 +119,15 @@ pub fn shown_floats(row: &[i16]) -> ([f32; 7], Option<f32>) {
 
 /// What an accepted payload orders, object by object, block by block.
 pub fn orders_of(payload: &[u8]) -> Vec<Order> {
-    notes::take();
-    let noted = oamd_noting::OamdDecoder::default().decode(payload);
-    assert!(noted.is_ok(), "both copies of the decoder accept alike");
-    orders::orders(&notes::take(), payload)
+    let (notes, error) = noted(payload);
+    assert!(error.is_none(), "both copies of the decoder accept alike");
+    orders::orders(&notes, payload)
 }
 
 /// What a refused payload made the noting decoder read.
-/// What is retained changes no refusal, so a fresh decoder serves.
-fn notes_of(payload: &[u8], error: &OamdParseError) -> Vec<notes::Note> {
-    notes::take();
-    let noted = oamd_noting::OamdDecoder::default().decode(payload);
-    let same = noted.is_err_and(|noted| noted.to_string() == error.to_string());
+fn notes_of(payload: &[u8], error: &OamdParseError) -> Vec<Note> {
+    let (notes, noted) = noted(payload);
+    let same = noted.is_some_and(|noted| noted == error.to_string());
     assert!(same, "both copies of the decoder refuse alike");
-    notes::take()
+    notes
 }

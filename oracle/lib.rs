@@ -15,6 +15,7 @@ pub mod call;
 pub mod container;
 pub mod container_mistakes;
 pub mod context;
+pub mod covered;
 pub mod form;
 pub mod journal;
 pub mod listener;

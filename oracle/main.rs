@@ -26,11 +26,14 @@
 //! `list SEED`: writes the fixed list that the program `replay` runs; it fails if a reachable pair of
 //!     number and context is not in it. docs/notes/replay-list.md has its format.
 //!
+//! `covered SEED COUNT`: writes COUNT payloads, each in a line: the answer's number (0 accepted), the
+//!     payload's bytes in hexadecimal, and how many fields cover each of them.
+//!
 //! `count SEED COUNT`: counts the answers to such a journal by number and context. It fails if an
 //!     aim misses, if a reachable pair is not seen, or if another one is.
 
 use oracle::generator::{Generator, Options};
-use oracle::{journal, timing};
+use oracle::{covered, journal, timing};
 use std::io::{self, BufWriter, Read, Write};
 use std::process::ExitCode;
 
@@ -38,7 +41,7 @@ mod count;
 mod fixed_list;
 
 const USAGE: &str = "usage: oracle journal | timing | generate SEED COUNT [warnings] [short] | \
-    list SEED | count SEED COUNT";
+    list SEED | covered SEED COUNT | count SEED COUNT";
 
 fn main() -> ExitCode {
     let arguments: Vec<String> = std::env::args().skip(1).collect();
@@ -49,6 +52,7 @@ fn main() -> ExitCode {
         ["timing"] => answer_timings(&mut out),
         ["generate", seed, count, ref options @ ..] => generate(seed, count, options, &mut out),
         ["list", seed] => fixed_list::write(number(seed), &mut out),
+        ["covered", seed, count] => covered::print(number(seed), number(count) as usize, &mut out),
         ["count", seed, count] => count::count(number(seed), number(count) as usize, &mut out),
         _ => Err(io::Error::other(USAGE)),
     };

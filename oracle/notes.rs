@@ -1,10 +1,18 @@
 //! What the noting decoder tried to read, to skip or to take in as an element, in order.
 
-use crate::context;
+use crate::{context, oamd_noting};
 use std::cell::RefCell;
+
+#[derive(Clone, Copy, PartialEq, Eq)]
+pub enum Sort {
+    Read,
+    Skip,
+    Element,
+}
 
 #[derive(Clone, Copy)]
 pub struct Note {
+    sort: Sort,
     pub place: usize,
     pub width: usize,
     /// The end that the Rust held it against, as a bit place.
@@ -23,9 +31,17 @@ impl Note {
 
     /// The bits that are wanted and do not remain, of an attempt that was cut.
     pub fn missing(&self) -> usize {
-        let remained = self.limit - self.place;
-        assert!(remained < self.width, "the end cuts it");
-        self.width - remained
+        assert!(self.is_cut(), "the end cuts it");
+        self.width - (self.limit - self.place)
+    }
+
+    /// Whether it is a field, and was read whole.
+    pub fn is_read(&self) -> bool {
+        self.sort == Sort::Read && !self.is_cut()
+    }
+
+    fn is_cut(&self) -> bool {
+        self.limit - self.place < self.width
     }
 
     /// The number that was read, of a field and not of a skipped run.
@@ -41,9 +57,10 @@ thread_local! {
 }
 
 /// Called by the noting decoder at the head of each read and skip, and where it tests an element's end.
-pub fn note(place: usize, width: usize, limit: usize, context: &'static str) {
+pub fn note(sort: Sort, place: usize, width: usize, limit: usize, context: &'static str) {
     NOTES.with(|notes| {
         notes.borrow_mut().push(Note {
+            sort,
             place,
             width,
             limit,
@@ -52,7 +69,15 @@ pub fn note(place: usize, width: usize, limit: usize, context: &'static str) {
     });
 }
 
+/// What a payload made the noting decoder try, and its error.
+/// What is retained changes neither, so a fresh decoder serves.
+pub fn noted(payload: &[u8]) -> (Vec<Note>, Option<String>) {
+    take();
+    let answer = oamd_noting::OamdDecoder::default().decode(payload);
+    (take(), answer.err().map(|error| error.to_string()))
+}
+
 /// The notes so far; the next reading begins with none.
-pub fn take() -> Vec<Note> {
+fn take() -> Vec<Note> {
     NOTES.with(|notes| std::mem::take(&mut *notes.borrow_mut()))
 }

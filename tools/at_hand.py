@@ -12,6 +12,7 @@ import sys
 from crate_list import TOP, crates
 
 LARGEST = 2**63 - 1
+TRACER = "valgrind"
 
 
 def stop(message, status=2):
@@ -60,6 +61,10 @@ def program(name, why):
 
 def prover():
     return program("rt", "the Rattle kit must be on the path, since the code is proved first")
+
+
+def tracer():
+    return program(TRACER, "its lackey traces each load of a program (in Debian, valgrind)")
 
 
 def rust_compiler():

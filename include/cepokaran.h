@@ -185,9 +185,9 @@ enum {
  *
  * The timings are not tested here: oamd_timing does that, and undoes nothing.
  *
- * A payload may lie behind a slow bus. Each field fetches each byte that it covers once at most, and no other
- * byte. So a byte is fetched as often as fields lie in it, some three times, and never if it is skipped or lies
- * behind a refusal. That is counted in the machine code, and no part of what is proved (docs/SPEED.md).
+ * A payload may lie behind a slow bus. No byte is fetched more often than fields lie in it, some three times,
+ * and none that is skipped or lies behind a refusal. That is counted in the machine code, on generated
+ * payloads, and no part of what is proved (docs/SPEED.md).
  */
 uint32_t oamd_decode(const uint8_t *payload, size_t payload_len,
                      int16_t *retained, size_t retained_len,

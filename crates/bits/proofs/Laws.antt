@@ -11,10 +11,13 @@ pub use Rattle.bits.proofs.Signs.{signed-lt}
 pub use Rattle.bits.proofs.Tells.{About, Tells, Run, Onward, read-tells, flag-tells, skip-tells, signed-tells}
 
 -- From a call's `ensures` and the answer that it gave, as in `gives said (read-lt _ _) (c .read .ensures) (c .v .given .1)`:
--- what the value has (`gives`), and what the answer tells of places and of a refusal (`told`).
+-- what the reading came to (`came`), what the value has (`gives`), and what the answer tells of places and of a refusal (`told`).
 module _ {A N : Type 0} (say : N → Parsed A) {n n′ : N} where
+  pub came : {x : Parsed A} → say n ≡ x → n ≡ n′ → x ≡ say n′
+  came f g = sym f ∙ ap say g
+
   answered : (Q : Parsed A → Type 0) {x : Parsed A} → Q x → say n ≡ x → n ≡ n′ → Q (say n′)
-  answered Q h f g = subst Q (sym f ∙ ap say g) h
+  answered Q h f g = subst Q (came f g) h
 
   module _ {m : Parser A} {s : List ℕ} {e p : ℕ} where
     pub gives : {P : A → Type 0} → Always P m → say n ≡ m s e p → n ≡ n′ → Ok P (say n′)

@@ -1,12 +1,11 @@
 -- A reading that makes something of what another reads: one law for each way in which readings are put together.
 use Prim.Native.Nat.{ℕ}
-use mathlib.Core.Path.{_≡_, refl, sym, _∙_}
+use mathlib.Core.Path.{_≡_, refl}
 use mathlib.Core.Bool.{Bool, true, false, cond}
 use mathlib.Core.List.{List}
-use mathlib.Core.Option.{Option, none, some}
-use Rattle.bits.specs.Parsed.{Parsed, got, refused, Parser, andThen, mapParsed, _>>=_, _>>_, mapP, pure, optional, here, placed, Refusal, refuse, within}
+use Rattle.bits.specs.Parsed.{Parsed, got, refused, Parser, andThen, mapParsed, _>>=_, _>>_, mapP, pure, Refusal, refuse, within}
 use Rattle.bits.proofs.Always.{Ok, Always, anything}
-use Rattle.bits.proofs.ParsedLaws.{map-map, placed-word}
+use Rattle.bits.proofs.ParsedLaws.{map-map}
 
 -- the pass n gives what f makes of the word that m gives
 pub record Makes {A B : Type 0} (f : A → B) (m : Parser A) (n : Parser B) : Type 0 where
@@ -20,10 +19,6 @@ module _ {A B : Type 0} {f : A → B} where
   pub choose : (b : Bool) {m m′ : Parser A} {n n′ : Parser B} → Makes f m n → Makes f m′ n′ → Makes f (cond b m m′) (cond b n n′)
   choose true x y = x
   choose false x y = y
-
-  pub from-here : (k : ℕ → Parser A) {n : Parser B} → ((at : ℕ) → Makes f (k at) n) → Makes f (here >>= k) n
-  unfolding _>>=_ here
-  from-here k r = record { makes = λ s e p. r p .makes s e p }
 
   pub none-made : (r : Refusal) → Makes f (refuse r) (refuse r)
   unfolding refuse
@@ -69,29 +64,3 @@ module _ {A B D : Type 0} {g : B → D} where
   pub next : (m : Parser A) {k : Parser B} {l : Parser D} → Makes g k l → Makes g (m >> k) (m >> l)
   unfolding _>>=_ _>>_
   next m {k} {l} r = record { makes = after m (λ a. k) (λ a. l) (λ a. r) .makes }
-
-  -- the last word read, put beside those before it
-  pub last : {f : A → D} {m : Parser A} {n : Parser D} (k : A → B) → Makes f m n → ((a : A) → f a ≡ g (k a)) → Makes g (m >>= (λ a. pure (k a))) n
-  unfolding _>>=_ pure
-  last {f} {m} k x r = record { makes = λ s e p. rw (x .makes s e p) (go (m s e p)) }
-    where
-      go : (x : Parsed A) → mapParsed f x ≡ mapParsed g (andThen x (λ a q. got (k a) q))
-      go (got a q) = rw (r a)
-      go (refused z) = refl
-
--- Words with their places
-
-module _ {A B : Type 0} {f : A → B} {m : Parser A} {n : Parser B} where
-  pub at-place : Makes f m n → Makes (λ w. f (w .word)) (placed m) n
-  at-place x = record { makes = λ s e p. x .makes s e p ∙ sym (placed-word f m s e p) }
-
-pub word : {A B : Type 0} (f : A → B) (m : Parser A) → Makes (λ w. f (w .word)) (placed m) (mapP f m)
-unfolding mapP
-word f m = at-place (record { makes = λ s e p. refl })
-
-module _ {A B : Type 0} (h : Option A → B) where
-  -- a word that a flag asks for; h is what is made of it, or of none
-  pub said : (b : Bool) {m : Parser A} {n : Parser B} → Makes (λ w. h (some w)) m n → Makes h (optional b m) (cond b n (pure (h none)))
-  unfolding optional
-  said true x = mapped some x
-  said false x = given none

@@ -3,7 +3,7 @@ use Prim.Native.Nat.{ℕ}
 use mathlib.Core.Path.{_≡_, refl, ap}
 use mathlib.Core.List.{List}
 use native.Mathlib.Omega.{arith}
-use Rattle.bits.specs.Parsed.{Refusal, Parsed, got, refused, Parser, andThen, mapParsed, insteadOf, placed}
+use Rattle.bits.specs.Parsed.{Refusal, Parsed, got, refused, Parser, andThen, mapParsed, insteadOf}
 use Rattle.bits.proofs.Always.{Ok}
 
 pub then-got : {A B : Type 0} (x : Parsed A) (f g : A → ℕ → Parsed B) → ((a : A) (q : ℕ) → f a q ≡ g a q) → andThen x f ≡ andThen x g
@@ -47,11 +47,6 @@ module _ {A : Type 0} (r : Refusal) where
 
   pub instead-twice : (r′ : Refusal) (x : Parsed A) → insteadOf r (insteadOf r′ x) ≡ insteadOf r x
   instead-twice r′ x = elim x [ got a q ↦ refl | refused r″ ↦ refl ]
-
--- what is made of a word alone does not see its place
-pub placed-word : {A B : Type 0} (f : A → B) (m : Parser A) (s : List ℕ) (e p : ℕ) → mapParsed (λ w. f (w .word)) (placed m s e p) ≡ mapParsed f (m s e p)
-unfolding placed
-placed-word f m s e p = map-map (m s e p) _ _
 
 -- what an answer that was made of a reading tells of that reading
 module _ {A B : Type 0} (f : A → B) where

@@ -1,4 +1,4 @@
--- Reading and applying at once in the table does what the two layers do, column by column.
+-- The walk through the table does what the two layers do, column by column.
 use Prim.Native.Nat.{ℕ, zero, suc, _+_, _*_, _<_, _≤_}
 use mathlib.Core.Path.{_≡_, refl, sym, _∙_, ap}
 use mathlib.Core.Bool.{true, false}
@@ -8,7 +8,7 @@ use lib.IntN.{ℤ}
 use lib.ListN.{length, drop}
 use lib.Seq.{drop-drop}
 use borrow.Author.Tests.{ne-eqb}
-use Rattle.bits.specs.Parsed.{andThen, mapParsed, _>>=_, mapP, pure, times, each}
+use Rattle.bits.specs.Parsed.{andThen, mapParsed, _>>=_, pure, times, each}
 use Rattle.bits.proofs.Always.{Always, together}
 use Rattle.bits.proofs.ParsedLaws.{then-got, map-then, then-map, map-last, then-such}
 use Rattle.standard.specs.Numbers.{rowWidth}
@@ -27,12 +27,11 @@ module _ (n o : ℕ) (k : Kind) (s : List ℕ) (e : ℕ) (h : o < n) where
   -- past block 0
   later-blocks : (left b : ℕ) (r : Row) (t : List ℤ) (p : ℕ)
       → columnFrom n o k left (suc b) r t s e p ≡ mapParsed (λ us. putColumn n o (suc b) (objectRows k r us (gainsFrom n o left (suc b) t)) t) (times left (update k false) s e p)
-  unfolding columnFrom times objectRows putColumn gainsFrom _>>=_ mapP pure
+  unfolding columnFrom times objectRows putColumn gainsFrom _>>=_ pure
   later-blocks zero b r t p = refl
   later-blocks (suc left) b r t p =
       rw (ne-eqb (suc b) 0 (λ z. omega arith))
-      (map-then (update k false s e p) _ _
-      ∙ then-got (update k false s e p) _ _ (λ u q.
+      (then-got (update k false s e p) _ _ (λ u q.
       let r′ = updated k (gainBefore n (suc b) o t) u r in
       let t′ = put t (place n (suc b) o) r′ in
       later-blocks left (suc b) r′ t′ q
@@ -42,10 +41,9 @@ module _ (n o : ℕ) (k : Kind) (s : List ℕ) (e : ℕ) (h : o < n) where
 
   one-object : (m : ℕ) (r : Row) (t : List ℤ) (p : ℕ)
       → columnFrom n o k (suc m) 0 r t s e p ≡ mapParsed (λ (x : Object). putColumn n o 0 (objectRows k r (x .updates) (gainsFrom n o (suc m) 0 t)) t) (object m k s e p)
-  unfolding columnFrom object objectRows putColumn gainsFrom _>>=_ mapP pure
+  unfolding columnFrom object objectRows putColumn gainsFrom _>>=_ pure
   one-object m r t p =
-      map-then (update k true s e p) _ _
-      ∙ then-got (update k true s e p) _ _ (λ u q.
+      then-got (update k true s e p) _ _ (λ u q.
       let r′ = updated k (gainBefore n 0 o t) u r in
       let t′ = put t (place n 0 o) r′ in
       later-blocks m 0 r′ t′ q

@@ -8,10 +8,10 @@ use lib.Dec.{eqb}
 use lib.IntN.{ℤ, pos}
 use lib.ListN.{length, getD, drop, length-map, drop-of-length-le, List·getD-map}
 use lib.Seq.{drop-cons}
-use Rattle.bits.specs.Parsed.{Parsed, got, andThen, mapParsed, _>>=_, mapP, pure}
+use Rattle.bits.specs.Parsed.{Parsed, got, andThen, _>>=_, pure}
 use Rattle.bits.specs.declared.Passed.{Passed}
 use Rattle.standard.specs.Numbers.{rowWidth}
-use Rattle.standard.specs.Tree.{Kind}
+use Rattle.standard.specs.Tree.{Kind, Update}
 use Rattle.standard.specs.Updates.{update}
 use Rattle.standard.specs.Rows.{Row}
 use Rattle.standard.specs.Meaning.{updated}
@@ -20,31 +20,34 @@ use Rattle.objects.specs.Fills.{Filling, leaving, Fills}
 use Rattle.objects.specs.Walk.{place, gainBefore, columnFrom, objectsFrom}
 use Rattle.rows.proofs.Puts.{length-put, drop-put}
 use Rattle.rows.specs.Kinds.{kindOf}
-use Rattle.update.specs.Say.{saidRow}
-use Rattle.update.specs.declared.Updated.{Updated}
+use Rattle.update.specs.Say.{updateRead}
+use Rattle.update.specs.declared.UpdateRead.{UpdateRead}
 use Rattle.objects.proofs.Filling.{to, on}
 
 -- One object
 
 module _ (n o : ℕ) (k : Kind) (s : List ℕ) (e : ℕ) where
-  block-more : (m b : ℕ) (r : Row) (t : List ℤ) (p : ℕ) → b < m
-      → columnFrom n o k (m - b) b r t s e p
-      ≡ andThen (mapParsed (λ u. updated k (gainBefore n b o t) u r) (update k (eqb b 0) s e p)) (λ r′ q. columnFrom n o k (m - (b + 1)) (b + 1) r′ (put t (place n b o) r′) s e q)
-  unfolding columnFrom _>>=_ mapP
+  -- what is left after block b, of which u was said
+  abbrev pub afterBlock : ℕ → ℕ → Row → List ℤ → Update → ℕ → Parsed (List ℤ)
+  afterBlock m b r t u q =
+      let r′ = updated k (gainBefore n b o t) u r in
+      columnFrom n o k (m - (b + 1)) (b + 1) r′ (put t (place n b o) r′) s e q
+
+  block-more : (m b : ℕ) (r : Row) (t : List ℤ) (p : ℕ) → b < m → columnFrom n o k (m - b) b r t s e p ≡ andThen (update k (eqb b 0) s e p) (afterBlock m b r t)
+  unfolding columnFrom _>>=_
   block-more m b r t p h =
       let j : m - b ≡ suc (m - (b + 1)) = omega arith in
-      rw (j, add-one)
+      rw (j, afterBlock, add-one)
 
   pub blocks-done : (m b : ℕ) (r : Row) (t : List ℤ) (p : ℕ) → m ≤ b → columnFrom n o k (m - b) b r t s e p ≡ got t p
   unfolding columnFrom pure
   blocks-done m b r t p h = let j : m - b ≡ 0 = omega arith in rw j
 
   -- the update of block b was read, or refused
-  pub block-read : {N : ℕ} {m₀ : Parsed (List ℤ)} {t₀ t : List ℤ} {u u′ : Updated} {k′ : Kind} {g : ℤ} (m b : ℕ) (r : Row) (p : ℕ)
-      → Filling N m₀ t₀ (columnFrom n o k (m - b) b r t s e p) t → b < m
-      → saidRow u ≡ mapParsed (λ x. updated k′ g x r) (update k′ (eqb b 0) s e p) → k′ ≡ k → g ≡ gainBefore n b o t → u ≡ u′
-      → Filling N m₀ t₀ (andThen (saidRow u′) (λ r′ q. columnFrom n o k (m - (b + 1)) (b + 1) r′ (put t (place n b o) r′) s e q)) t
-  block-read {t = t} m b r p f h a x y z = to f (block-more m b r t p h ∙ rw (← x, ← y, ← a, z))
+  pub block-read : {N : ℕ} {m₀ : Parsed (List ℤ)} {t₀ t : List ℤ} {u u′ : UpdateRead} {k′ : Kind} (m b : ℕ) (r : Row) (p : ℕ)
+      → Filling N m₀ t₀ (columnFrom n o k (m - b) b r t s e p) t → b < m → updateRead u ≡ update k′ (eqb b 0) s e p → k′ ≡ k → u ≡ u′
+      → Filling N m₀ t₀ (andThen (updateRead u′) (afterBlock m b r t)) t
+  block-read {t = t} m b r p f h a x y = to f (block-more m b r t p h ∙ rw (← x, ← a, y))
 
 -- a row was put within the first N numbers
 pub put-within : {N : ℕ} {m₀ m : Parsed (List ℤ)} {t₀ t : List ℤ} (at : ℕ) (r : Row) → Filling N m₀ t₀ m t → at + rowWidth ≤ N → Filling N m₀ t₀ m (put t at r)

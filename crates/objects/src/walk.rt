@@ -15,8 +15,9 @@ use rows::row::Row;
 use rows::table::gain_at;
 use rows::table::put_row;
 use rows::table::row_at;
-use update::Updated;
-use update::parse_update;
+use update::UpdateRead;
+use update::apply;
+use update::read_update;
 
 // The rows of one object, of a kind: its place among so many objects, in each of so many blocks.
 struct Column {
@@ -72,12 +73,12 @@ fn parse_object(
     let mut row = first;
     let mut place = at;
     for block in 0..column.blocks {
-        let gain = gain_before(blocks, column, block);
-        match parse_update(payload, limit, place, column.kind, block == 0, gain, row) {
-            Updated::Refused(refusal) => return Passed::Refused(refusal),
-            Updated::Row(next, state) => {
-                put_row(blocks, row_place(column, block), state);
-                row = state;
+        match read_update(payload, limit, place, column.kind, block == 0) {
+            UpdateRead::Refused(refusal) => return Passed::Refused(refusal),
+            UpdateRead::Words(next, words) => {
+                let gain = gain_before(blocks, column, block);
+                row = apply(words, column.kind, gain, row);
+                put_row(blocks, row_place(column, block), row);
                 place = next;
             }
         }

@@ -18,7 +18,7 @@ use Rattle.standard.specs.Numbers.{objectLimit}
 use Rattle.standard.specs.Contexts as context
 use Rattle.standard.specs.Tree.{Kind, Tree}
 use Rattle.standard.specs.Assignment.{version, objectCount, onlyDynamic, oneBed, beds, isfs, dynamics, contents, assignment}
-use Rattle.standard.specs.Updates.{gainWord, priorityWord, basic, differential, absolutely, distance, positionWord, zoneWord, sizeWord, screenWord, groups, render, status, activeUpdate, tableData, update, object}
+use Rattle.standard.specs.Updates.{gainBy, gainWord, priorityWord, levels, parts, basic, differential, absolutely, distance, positionWord, zoneWord, threeSizes, sizeBy, sizeWord, screenWord, groups, render, status, renderOf, activeUpdate, tableData, update, object}
 use Rattle.standard.specs.Syntax.{sampleOffset, ramp, timing, reserved, objectElement, trim, elementCount, elementSize, alternate, once, content, element, elements, present, body, payload, syntax}
 use Rattle.standard.proofs.Counts.{kinds-counted}
 
@@ -233,21 +233,21 @@ module _ {e : ℕ} where
   unfolding assignment onlyDynamic contents beds oneBed isfs dynamics
   kinds n = search (staying, extension, bytes) depth 20 fits 4000
 
-  levels : (at n : ℕ) → Stays e (basic at n)
-  unfolding basic gainWord priorityWord
-  levels at n = search staying depth 20 fits 4000
+  both-levels : (at n : ℕ) → Stays e (basic at n)
+  unfolding basic parts levels gainBy gainWord priorityWord
+  both-levels at n = search staying depth 20 fits 4000
 
   a-position : (first : Bool) → Stays e (positionWord first)
   unfolding positionWord differential absolutely distance
   a-position first = search staying depth 20 fits 4000
 
   a-picture : (first : Bool) (n : ℕ) → Stays e (groups first n)
-  unfolding groups zoneWord sizeWord screenWord
+  unfolding groups zoneWord threeSizes sizeBy sizeWord screenWord
   a-picture first n = search (staying, a-position) depth 20 fits 4000
 
   an-update : (k : Kind) (first : Bool) → Stays e (update k first)
-  unfolding update activeUpdate status render tableData
-  an-update k first = search (staying, levels, a-picture, bytes) depth 20 fits 4000
+  unfolding update activeUpdate renderOf status render parts tableData
+  an-update k first = search (staying, both-levels, a-picture, bytes) depth 20 fits 4000
 
   an-object : (m : ℕ) (k : Kind) → Stays e (object m k)
   unfolding object

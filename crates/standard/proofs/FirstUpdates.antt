@@ -8,7 +8,7 @@ use Rattle.bits.specs.Parsed.{_>>=_, pure, here}
 use Rattle.bits.proofs.Always.{Ok, Always, bind, after, next, choose, given, from-pure, from-some, from-some-such, mapped-such, at-place}
 use Rattle.standard.specs.Contexts as context
 use Rattle.standard.specs.Tree.{Kind, isDynamic, Render, kept, Update, inactive, active, Object, Tree}
-use Rattle.standard.specs.Updates.{basic, absolutely, positionWord, groups, render, status, activeUpdate, update, object}
+use Rattle.standard.specs.Updates.{levels, parts, basic, absolutely, positionWord, groups, render, status, renderOf, activeUpdate, update, object}
 use Rattle.standard.specs.Marks.{isSome, isAbsolute, settles, settlesAll}
 use Rattle.standard.specs.Meaning.{taken}
 use Rattle.standard.proofs.Small.{both}
@@ -26,7 +26,7 @@ abbrev pub ObjectForm : Object → Type 0
 ObjectForm o = FirstIn (o .kind) (o .updates)
 
 basic-first : (at : ℕ) → Always (λ b. (isSome (b .gain) && isSome (b .priority)) ≡ true) (basic at 1)
-unfolding basic isSet
+unfolding basic parts levels isSet
 basic-first at = from-pure _ _ (from-some _ _ λ g. from-some _ _ λ n. given _ refl)
 
 position-first : Always (λ w. isAbsolute w ≡ true) (positionWord true)
@@ -40,11 +40,11 @@ groups-first =
     from-some-such _ (at-place position-first) λ p h. from-some _ _ λ z. from-some _ _ λ n. from-some _ _ λ s. after _ _ λ l. given _ (rw h)
 
 render-first : (at : ℕ) → Always (λ r. settlesAll r ≡ true) (render true at 1)
-unfolding render
+unfolding render parts
 render-first at = from-pure _ _ (mapped-such Render.given groups-first λ w h. h)
 
 active-first : (k : Kind) → Always (λ u. firstForm k u ≡ true) (activeUpdate k true)
-unfolding activeUpdate status
+unfolding activeUpdate renderOf status
 active-first k = after _ _ λ at. from-pure _ _ (bind _ (basic-first at) λ b hb. bind _ (rendered (isDynamic k)) λ r hr. given _ (both _ _ hb hr))
   where
     rendered : (d : Bool) → Always (λ r. (not d || settlesAll r) ≡ true) (cond d (here >>= λ at. status true context.render-info-status >>= render true at) (pure kept))

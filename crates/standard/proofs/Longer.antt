@@ -13,7 +13,7 @@ use Rattle.bits.specs.Reads.{read, flag, extended, skipBytes, laterGroups, vari
 use Rattle.bits.proofs.Growing.{Alike, alike-itself, alike-field, From, from-earlier, Stretch, GrowsAt, Grows, carried, bind, next, mapped, from-here, choose, given, refusing, recast, Uncut, never, a-field, a-flag, Closing, gives, padded, growing}
 use Rattle.standard.specs.Contexts as context
 use Rattle.standard.specs.Tree.{Kind, Tree}
-use Rattle.standard.specs.Updates.{gainWord, priorityWord, basic, differential, absolutely, distance, positionWord, zoneWord, sizeWord, screenWord, groups, render, status, activeUpdate, tableData, update, object}
+use Rattle.standard.specs.Updates.{gainBy, gainWord, priorityWord, levels, parts, basic, differential, absolutely, distance, positionWord, zoneWord, threeSizes, sizeBy, sizeWord, screenWord, groups, render, status, renderOf, activeUpdate, tableData, update, object}
 use Rattle.standard.specs.Syntax.{sampleOffset, ramp, timing, reserved, objectElement, trim, alternate, once, content}
 use Rattle.standard.proofs.Bounds.{Inside}
 
@@ -46,21 +46,21 @@ lastOutside = context.program-assignment-object-count
 abbrev pub ofElement : Stretch
 ofElement = record { cuts = λ c. leb (lastOutside + 1) c; Inner = λ s e r. ⊥ }
 
-levels : (at n : ℕ) → Grows ofElement true (basic at n)
-unfolding basic gainWord priorityWord
-levels at n = search growing depth 20 fits 4000
+both-levels : (at n : ℕ) → Grows ofElement true (basic at n)
+unfolding basic parts levels gainBy gainWord priorityWord
+both-levels at n = search growing depth 20 fits 4000
 
 a-position : (first : Bool) → Grows ofElement true (positionWord first)
 unfolding positionWord differential absolutely distance
 a-position first = search growing depth 20 fits 4000
 
 a-picture : (first : Bool) (n : ℕ) → Grows ofElement true (groups first n)
-unfolding groups zoneWord sizeWord screenWord
+unfolding groups zoneWord threeSizes sizeBy sizeWord screenWord
 a-picture first n = search (growing, a-position) depth 20 fits 4000
 
 an-update : (k : Kind) (first : Bool) → Grows ofElement true (update k first)
-unfolding update activeUpdate status render tableData
-an-update k first = search (growing, levels, a-picture, bytes) depth 20 fits 4000
+unfolding update activeUpdate renderOf status render parts tableData
+an-update k first = search (growing, both-levels, a-picture, bytes) depth 20 fits 4000
 
 an-object : (m : ℕ) (k : Kind) → Grows ofElement true (object m k)
 unfolding object

@@ -15,7 +15,7 @@ use Rattle.bits.proofs.Always.{Ok, All, Always, IfSome, OfWord, bind, after, ne
 use Rattle.bits.proofs.Fields.{read-lt}
 use Rattle.standard.specs.Numbers.{sideLimit, heightLimit, sizeLimit, priorityLimit}
 use Rattle.standard.specs.Tree.{Kind, isDynamic, Zone, Size, GainWord, level, copied, PositionWord, absolute, moved, Basic, Groups, Render, default, kept, Update, inactive, active, Object}
-use Rattle.standard.specs.Updates.{decibels, gainWord, priorityWord, basic, differential, absolutely, positionWord, bit, zoneWord, sized, sizeWord, screenWord, groups, render, activeUpdate, update, object}
+use Rattle.standard.specs.Updates.{decibels, gainBy, gainWord, priorityWord, levels, parts, basic, differential, absolutely, positionWord, bit, zoneWord, sized, threeSizes, sizeBy, sizeWord, screenWord, groups, render, renderOf, activeUpdate, update, object}
 use Rattle.standard.specs.Meaning.{taken}
 use Rattle.standard.specs.Tables.{between, isFlag, gainForm, positionForm, positionTests, sizeForm, zoneForm}
 use Rattle.standard.proofs.Small.{and-left, and-right, both}
@@ -54,7 +54,7 @@ unfolding gainForm decibels allBelow
 decibels-form w h = below (λ n. gainForm (decibels n)) 64 refl w h
 
 gain-ok : Always GainOk gainWord
-unfolding gainWord gainForm
+unfolding gainBy gainWord gainForm
 gain-ok =
     after _ _ λ code.
     choose (eqb code 0) (given _ refl)
@@ -72,7 +72,7 @@ pub record BasicOk (b : Basic) : Type 0 where
   pub priority : IfSaid PriorityOk (b .priority)
 
 basic-ok : (at status : ℕ) → Always BasicOk (basic at status)
-unfolding basic gainForm
+unfolding basic parts levels gainForm
 basic-ok at status =
     choose (eqb status 0) (given _ (record { gain = refl; priority = refl }))
     (choose (eqb status 2) (given _ (record { gain = tt; priority = tt }))
@@ -125,7 +125,7 @@ sized-ok w d h j k l =
     both _ _ (pos-between sizeLimit w (omega arith)) (both _ _ (pos-between sizeLimit d (omega arith)) (both _ _ (pos-between sizeLimit h (omega arith)) refl))
 
 size-ok : Always SizeOk sizeWord
-unfolding sizeWord
+unfolding sizeWord sizeBy threeSizes
 size-ok =
     after _ _ λ at. after _ _ λ code.
     choose (eqb code 0) (given _ (sized-ok 0 0 0 (omega arith) (omega arith) (omega arith)))
@@ -164,7 +164,7 @@ RenderOk kept = Unit {0}
 RenderOk (Render.given w) = GroupsOk w
 
 render-ok : (first : Bool) (at status : ℕ) → Always RenderOk (render first at status)
-unfolding render
+unfolding render parts
 render-ok first at status =
     choose (eqb status 0) (given _ tt)
     (choose (eqb status 2) (given _ tt) (after _ _ λ flags. mapped-such Render.given (groups-ok first flags) λ w h. h))
@@ -176,7 +176,7 @@ UpdateOk (inactive at) = Unit {0}
 UpdateOk (active b r) = BasicOk b × RenderOk r
 
 update-ok : (k : Kind) (first : Bool) → Always UpdateOk (update k first)
-unfolding update activeUpdate
+unfolding update activeUpdate renderOf
 update-ok k first =
     after _ _ λ at. after _ _ λ off.
     bind _

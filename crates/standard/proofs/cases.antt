@@ -3,6 +3,7 @@ pub mod Bench
 pub mod Writer
 pub mod FurtherCases
 pub mod MarkCases
+pub mod PlaceCases
 pub mod ReadingCases
 pub mod ElementCases
 pub mod TableCases

@@ -1,5 +1,5 @@
 -- The specification, section 7, "Reading order", of objects and blocks: what is said of one object in one block.
-use Prim.Native.Nat.{ℕ, min}
+use Prim.Native.Nat.{ℕ, _-_, _^_, min}
 use mathlib.Core.Bool.{Bool, true, false, cond}
 use mathlib.Core.List.{_∷_}
 use mathlib.Core.Option.{none, some}
@@ -18,13 +18,18 @@ use Rattle.standard.specs.Contexts as context
 unfoldable pub decibels : ℕ → ℤ
 decibels w = cond (leb w 14) (subℕ 15 w) (subℕ 14 w)
 
+-- by code: 0 dB, silence, a level, or copied
+unfoldable pub gainBy : ℕ → Parser GainWord
+gainBy code =
+    cond (eqb code 0) (pure (level (pos 0)))
+    (cond (eqb code 1) (pure (level silence))
+    (cond (eqb code 2) (mapP (λ w. level (decibels w)) (read 6 context.object-gain))
+    (pure copied)))
+
 unfoldable pub gainWord : Parser GainWord
 gainWord = do
   code ← read 2 context.object-gain-index
-  cond (eqb code 0) (pure (level (pos 0)))
-      (cond (eqb code 1) (pure (level silence))
-      (cond (eqb code 2) (mapP (λ w. level (decibels w)) (read 6 context.object-gain))
-      (pure copied)))
+  gainBy code
 
 -- in 32nds
 unfoldable pub priorityWord : Parser ℤ
@@ -32,15 +37,24 @@ priorityWord = do
   usual ← flag context.default-object-priority-flag
   cond usual (pure (pos priorityLimit)) (mapP pos (read 5 context.object-priority))
 
--- Status 0 sets silence and priority 0, 1 says both, 2 keeps both, 3 says those of its two flags, the gain's first. It was read at `at`.
+-- those of the two that the flags choose, the gain's first
+unfoldable pub levels : ℕ → Parser Basic
+levels flags = do
+  g ← optional (isSet 1 flags) (placed gainWord)
+  p ← optional (isSet 0 flags) (placed priorityWord)
+  pure (record { gain = g; priority = p })
+
+-- which of n parts are said, by flags: status 1 says all, and 3 has a flag for each
+unfoldable pub parts : ℕ → ℕ → ℕ → Parser ℕ
+parts status n c = cond (eqb status 1) (pure (2 ^ n - 1)) (read n c)
+
+-- Status 0 sets silence and priority 0, 1 says both, 2 keeps both, 3 says those of its two flags. It was read at `at`.
 unfoldable pub basic : ℕ → ℕ → Parser Basic
 basic at status =
     cond (eqb status 0) (pure (record { gain = some (placedAt at (level silence)); priority = some (placedAt at (pos 0)) }))
     (cond (eqb status 2) (pure (record { gain = none; priority = none })) do
-      flags ← cond (eqb status 1) (pure 3) (read 2 context.mixed-basic-info-flags)
-      g ← optional (isSet 1 flags) (placed gainWord)
-      p ← optional (isSet 0 flags) (placed priorityWord)
-      pure (record { gain = g; priority = p }))
+      flags ← parts status 2 context.mixed-basic-info-flags
+      levels flags)
 
 -- Render information
 
@@ -94,20 +108,27 @@ zoneWord = do
 unfoldable pub sized : ℕ → ℕ → ℕ → Size
 sized w d h = record { width = pos w; depth = pos d; height = pos h }
 
--- by code: no size, one for width, depth and height, or three; in 31sts
+-- width, depth and height
+unfoldable pub threeSizes : Parser Size
+threeSizes = do
+  w ← read 5 context.object-width
+  d ← read 5 context.object-depth
+  h ← read 5 context.object-height
+  pure (sized w d h)
+
+-- by code, read at `at`: no size, one for width, depth and height, or three; in 31sts
+unfoldable pub sizeBy : ℕ → ℕ → Parser Size
+sizeBy at code =
+    cond (eqb code 0) (pure (sized 0 0 0))
+    (cond (eqb code 1) (mapP (λ n. sized n n n) (read 5 context.object-size))
+    (cond (eqb code 2) threeSizes
+    (refuse (invalid context.object-size-index at))))
+
 unfoldable pub sizeWord : Parser Size
 sizeWord = do
   at ← here
   code ← read 2 context.object-size-index
-  cond (eqb code 0) (pure (sized 0 0 0))
-      (cond (eqb code 1) (mapP (λ n. sized n n n) (read 5 context.object-size))
-      (cond (eqb code 2)
-      (do
-        w ← read 5 context.object-width
-        d ← read 5 context.object-depth
-        h ← read 5 context.object-height
-        pure (sized w d h))
-      (refuse (invalid context.object-size-index at))))
+  sizeBy at code
 
 -- a set flag has 3 and 2 bits behind it, read and dropped
 unfoldable pub screenWord : Parser ℤ
@@ -135,7 +156,7 @@ unfoldable pub render : Bool → ℕ → ℕ → Parser Render
 render first at status =
     cond (eqb status 0) (pure (default at))
     (cond (eqb status 2) (pure kept) do
-      flags ← cond (eqb status 1) (pure 15) (read 4 context.mixed-render-info-flags)
+      flags ← parts status 4 context.mixed-render-info-flags
       mapP given (groups first flags))
 
 -- One object in one block
@@ -144,17 +165,22 @@ render first at status =
 unfoldable pub status : Bool → ℕ → Parser ℕ
 status first c = cond first (pure 1) (read 2 c)
 
+-- nothing is said of the picture of a fixed kind
+unfoldable pub renderOf : Kind → Bool → Parser Render
+renderOf k first =
+    cond (isDynamic k)
+    (do
+      at ← here
+      s ← status first context.render-info-status
+      render first at s)
+    (pure kept)
+
 unfoldable pub activeUpdate : Kind → Bool → Parser Update
 activeUpdate k first = do
   at ← here
   s ← status first context.basic-info-status
   b ← basic at s
-  r ← cond (isDynamic k)
-      (do
-        at ← here
-        s ← status first context.render-info-status
-        render first at s)
-      (pure kept)
+  r ← renderOf k first
   pure (active b r)
 
 unfoldable pub tableData : Parser (Unit {0})
@@ -180,5 +206,5 @@ object m k = do
 -- What computing opens
 
 unfoldable pub computed : Unit {0}
-unfolding decibels gainWord priorityWord basic differential absolutely distance positionWord bit zoneWord sized sizeWord screenWord groups render status activeUpdate tableData update object
+unfolding decibels gainBy gainWord priorityWord levels parts basic differential absolutely distance positionWord bit zoneWord sized threeSizes sizeBy sizeWord screenWord groups render status renderOf activeUpdate tableData update object
 computed = tt

@@ -1,3 +1,5 @@
 pub mod Numbers
+pub mod Bounds
 pub mod Steps
-pub mod Bridge
+pub mod AskedWords
+pub mod DynamicTests

@@ -1,22 +1,23 @@
-// One object in one block: what is read of it, applied at once to the row before.
+// One object in one block: the words that are said of it, and what they do to its row.
 ghost use mathlib.Core.Path.{_≡_};
-ghost use Rattle.bits.specs.Parsed.{mapParsed};
-ghost use Rattle.bits.specs.Say.{said, saidPassed};
+ghost use mathlib.Core.Bool.{cond};
+ghost use Rattle.bits.specs.Parsed.{pure};
+ghost use Rattle.bits.specs.Say.{saidPassed};
+ghost use Rattle.standard.specs.Tree as tree;
 ghost use Rattle.standard.specs.Updates as standard;
-ghost use Rattle.standard.specs.Meaning.{updated};
 ghost use Rattle.rows.specs.Kinds.{kindOf};
-ghost use Rattle.rows.specs.Say.{rowSaid};
-ghost use Rattle.update.specs.Passes as pass;
-ghost use Rattle.update.specs.Say.{saidRow};
+ghost use Rattle.update.specs.Say.{renderRead, updateRead};
 
 mod basic;
 mod contexts;
+mod meaning;
 mod position;
 mod render;
-mod state;
+mod statuses;
+mod words;
 
-use basic::PreviousGain;
-use basic::parse_basic_info;
+use basic::BasicRead;
+use basic::read_basic_info;
 use bits::BitPlace;
 use bits::Flag;
 use bits::Number;
@@ -28,89 +29,96 @@ use contexts::ADDITIONAL_TABLE_DATA_SIZE;
 use contexts::BASIC_INFO_STATUS;
 use contexts::OBJECT_NOT_ACTIVE_FLAG;
 use contexts::RENDER_INFO_STATUS;
-use render::parse_render_info;
-use rows::row::Row;
+pub use meaning::apply;
+use render::RenderRead;
+use render::read_render_info;
 use rows::row::is_dynamic;
-use state::begun;
-use state::silenced;
+use statuses::read_status;
+use words::Render;
+pub use words::Update;
 
-// The row that follows and the place after what was read, or the refusal.
-pub enum Updated {
-    Row(BitPlace, Row),
+// The words and the place after them, or the refusal.
+pub enum UpdateRead {
+    Words(BitPlace, Update),
     Refused(Refusal),
 }
 
-// `row` is the row before; the previous gain is that of the preceding object in this block, 0 before object 0.
-pub fn parse_update(
+pub fn read_update(
     payload: &[u8],
     limit: BitPlace,
     at: BitPlace,
     kind: i16,
     first: bool,
-    previous_gain: i16,
-    row: Row,
-) -> Updated
-    ensures { λ r. ⌜ saidRow r ≡ mapParsed (λ u. updated (kindOf kind) «previous_gain» u (rowSaid row)) (standard.update (kindOf kind) first (now (payload .entry)) (limit .0) (at .0)) ⌝ }
+) -> UpdateRead
+    ensures { λ r. ⌜ updateRead r ≡ standard.update (kindOf kind) first (now (payload .entry)) (limit .0) (at .0) ⌝ }
 {
     match bits::read_flag(payload, limit, at, OBJECT_NOT_ACTIVE_FLAG) {
-        Flag::Refused(refusal) => Updated::Refused(refusal),
-        Flag::Is(inactive, at) => {
-            let row = begun(row, kind, inactive);
-            let previous = PreviousGain(previous_gain);
-            let state = parse_state(payload, limit, at, first, row, previous);
-            let Updated::Row(at, row) = state else {
+        Flag::Refused(refusal) => UpdateRead::Refused(refusal),
+        Flag::Is(inactive, next) => {
+            let state = read_state(payload, limit, next, kind, first, inactive, at);
+            let UpdateRead::Words(next, words) = state else {
                 return state;
             };
-            match skip_table_data(payload, limit, at) {
-                Passed::Refused(refusal) => Updated::Refused(refusal),
-                Passed::To(at) => Updated::Row(at, row),
+            match skip_table_data(payload, limit, next) {
+                Passed::Refused(refusal) => UpdateRead::Refused(refusal),
+                Passed::To(end) => UpdateRead::Words(end, words),
             }
         }
     }
 }
 
-// An inactive object keeps its picture.
-fn parse_state(
+// The flag that says whether the object is inactive was read at a place before.
+fn read_state(
     payload: &[u8],
     limit: BitPlace,
     at: BitPlace,
+    kind: i16,
     first: bool,
-    row: Row,
-    previous: PreviousGain,
-) -> Updated
-    ensures { λ r. ⌜ saidRow r ≡ pass.statePass first (previous .0) (rowSaid row) (now (payload .entry)) (limit .0) (at .0) ⌝ }
+    inactive: bool,
+    flag_at: BitPlace,
+) -> UpdateRead
+    ensures { λ r. ⌜ updateRead r ≡ cond inactive (pure (tree.inactive («flag_at» .0))) (standard.activeUpdate (kindOf kind) first) (now (payload .entry)) (limit .0) (at .0) ⌝ }
 {
-    if row.active == 0 {
-        return Updated::Row(at, silenced(row));
+    if inactive {
+        return UpdateRead::Words(at, Update::Inactive(flag_at));
     }
     match read_status(payload, limit, at, first, BASIC_INFO_STATUS) {
-        Number::Refused(refusal) => Updated::Refused(refusal),
-        Number::Value(status, at) => {
-            let levelled = parse_basic_info(payload, limit, at, status, row, previous);
-            let Updated::Row(at, row) = levelled else {
-                return levelled;
-            };
-            if !is_dynamic(row.kind) {
-                return Updated::Row(at, row);
-            }
-            match read_status(payload, limit, at, first, RENDER_INFO_STATUS) {
-                Number::Refused(refusal) => Updated::Refused(refusal),
-                Number::Value(status, at) => {
-                    parse_render_info(payload, limit, at, status, first, row)
+        Number::Refused(refusal) => UpdateRead::Refused(refusal),
+        Number::Value(status, next) => match read_basic_info(payload, limit, next, status, at) {
+            BasicRead::Refused(refusal) => UpdateRead::Refused(refusal),
+            BasicRead::Words(next, basic) => match read_render_of(
+                payload,
+                limit,
+                next,
+                kind,
+                first,
+            ) {
+                RenderRead::Refused(refusal) => UpdateRead::Refused(refusal),
+                RenderRead::Words(end, render) => {
+                    UpdateRead::Words(end, Update::Active(basic, render))
                 }
-            }
-        }
+            },
+        },
     }
 }
 
-// In block 0 a status is 1, and is not read.
-fn read_status(payload: &[u8], limit: BitPlace, at: BitPlace, first: bool, context: u8) -> Number
-    ensures { λ r. ⌜ said r ≡ standard.status first context (now (payload .entry)) (limit .0) (at .0) ⌝ }
+// Nothing is said of the picture of a fixed kind.
+fn read_render_of(
+    payload: &[u8],
+    limit: BitPlace,
+    at: BitPlace,
+    kind: i16,
+    first: bool,
+) -> RenderRead
+    ensures { λ r. ⌜ renderRead r ≡ standard.renderOf (kindOf kind) first (now (payload .entry)) (limit .0) (at .0) ⌝ }
 {
-    if first {
-        return Number::Value(1, at);
+    if !is_dynamic(kind) {
+        return RenderRead::Words(at, Render::Kept);
     }
-    bits::read(payload, limit, at, 2, context)
+    match read_status(payload, limit, at, first, RENDER_INFO_STATUS) {
+        Number::Refused(refusal) => RenderRead::Refused(refusal),
+        Number::Value(status, next) => read_render_info(payload, limit, next, status, at, first),
+    }
 }
 
 fn skip_table_data(payload: &[u8], limit: BitPlace, at: BitPlace) -> Passed

@@ -1,16 +1,16 @@
-// The position of an object, absolute or by steps.
+// The word of an object's position, absolute or by steps.
 ghost use mathlib.Core.Path.{_≡_};
-ghost use mathlib.Core.Bool.{cond};
+ghost use mathlib.Core.Bool.{false, cond};
 ghost use Prim.Native.Nat.{_≤_, min};
-ghost use lib.IntN.{pos, negℤ, _+ℤ_};
+ghost use lib.IntN.{pos, negℤ};
+ghost use Rattle.bits.specs.Bits.{isSet};
+ghost use Rattle.bits.specs.Parsed.{optional, placed, pure};
+ghost use Rattle.bits.specs.Reads.{flag};
 ghost use Rattle.bits.specs.Say.{saidFlag, saidPassed};
+ghost use Rattle.standard.specs.Contexts as context;
 ghost use Rattle.standard.specs.Numbers.{sideLimit, heightLimit};
 ghost use Rattle.standard.specs.Updates as standard;
-ghost use Rattle.standard.specs.Meaning as meaning;
-ghost use Rattle.rows.specs.Say.{positionSaid, rowSaid};
-ghost use Rattle.update.specs.Passes as pass;
-ghost use Rattle.update.specs.Say.{saidRow};
-use crate::Updated;
+ghost use Rattle.update.specs.Say.{ifAsked, positionRead};
 use crate::contexts::DIFFERENTIAL_POSITION_FLAG;
 use crate::contexts::DIFFERENTIAL_X;
 use crate::contexts::DIFFERENTIAL_Y;
@@ -22,39 +22,44 @@ use crate::contexts::POSITION_X;
 use crate::contexts::POSITION_Y;
 use crate::contexts::POSITION_Z;
 use crate::contexts::POSITION_Z_SIGN;
-use crate::state::unsettle;
-use crate::state::with_position;
 use bits::BitPlace;
 use bits::Flag;
 use bits::Number;
 use bits::Passed;
+use bits::Refusal;
 use bits::Signed;
 use bits::is_set;
-use rows::numbers::HEIGHT_LIMIT;
 use rows::numbers::SIDE_LIMIT;
 use rows::row::Position;
-use rows::row::Row;
 
-pub fn parse_position(
+// Whether the position is by steps, and the position or the steps.
+pub enum Located {
+    Is(BitPlace, bool, Position),
+    Refused(Refusal),
+}
+
+pub fn read_position(
     payload: &[u8],
     limit: BitPlace,
     at: BitPlace,
     flags: u32,
     first: bool,
-    row: Row,
-) -> Updated
-    ensures { λ r. ⌜ saidRow r ≡ pass.positionPass first flags (rowSaid row) (now (payload .entry)) (limit .0) (at .0) ⌝ }
+) -> Located
+    ensures { λ r. ⌜ ifAsked (isSet 3 flags) (at .0) (positionRead r) ≡ optional (isSet 3 flags) (placed (standard.positionWord first)) (now (payload .entry)) (limit .0) (at .0) ⌝ }
 {
     if !is_set(flags, 3) {
-        return Updated::Row(at, unsettle(row));
+        return Located::Is(at, false, Position { x: 0, y: 0, z: 0 });
     }
     match read_differential(payload, limit, at, first) {
-        Flag::Refused(refusal) => Updated::Refused(refusal),
-        Flag::Is(differential, at) => {
-            if differential {
-                parse_differential(payload, limit, at, row)
-            } else {
-                parse_absolute(payload, limit, at, row)
+        Flag::Refused(refusal) => Located::Refused(refusal),
+        Flag::Is(differential, next) => {
+            let place = read_place(payload, limit, next, differential);
+            let Located::Is(next, steps, position) = place else {
+                return place;
+            };
+            match skip_distance(payload, limit, next) {
+                Passed::Refused(refusal) => Located::Refused(refusal),
+                Passed::To(next) => Located::Is(next, steps, position),
             }
         }
     }
@@ -62,7 +67,7 @@ pub fn parse_position(
 
 // In block 0 no position is differential, and no flag says so.
 fn read_differential(payload: &[u8], limit: BitPlace, at: BitPlace, first: bool) -> Flag
-    ensures { λ r. ⌜ saidFlag r ≡ pass.stepsRead first (now (payload .entry)) (limit .0) (at .0) ⌝ }
+    ensures { λ r. ⌜ saidFlag r ≡ cond first (pure false) (flag context.differential-position-flag) (now (payload .entry)) (limit .0) (at .0) ⌝ }
 {
     if first {
         return Flag::Is(false, at);
@@ -70,68 +75,48 @@ fn read_differential(payload: &[u8], limit: BitPlace, at: BitPlace, first: bool)
     bits::read_flag(payload, limit, at, DIFFERENTIAL_POSITION_FLAG)
 }
 
-// Steps go from the position before, so they settle nothing.
-fn parse_differential(payload: &[u8], limit: BitPlace, at: BitPlace, row: Row) -> Updated
-    ensures { λ r. ⌜ saidRow r ≡ pass.placePass (rowSaid row) standard.differential (now (payload .entry)) (limit .0) (at .0) ⌝ }
+fn read_place(payload: &[u8], limit: BitPlace, at: BitPlace, differential: bool) -> Located
+    ensures { λ r. ⌜ positionRead r ≡ cond differential standard.differential standard.absolutely (now (payload .entry)) (limit .0) (at .0) ⌝ }
+{
+    if differential {
+        return read_steps(payload, limit, at);
+    }
+    read_absolute(payload, limit, at)
+}
+
+fn read_steps(payload: &[u8], limit: BitPlace, at: BitPlace) -> Located
+    ensures { λ r. ⌜ positionRead r ≡ standard.differential (now (payload .entry)) (limit .0) (at .0) ⌝ }
 {
     match bits::read_signed(payload, limit, at, 3, DIFFERENTIAL_X) {
-        Signed::Refused(refusal) => Updated::Refused(refusal),
+        Signed::Refused(refusal) => Located::Refused(refusal),
         Signed::Value(x, at) => match bits::read_signed(payload, limit, at, 3, DIFFERENTIAL_Y) {
-            Signed::Refused(refusal) => Updated::Refused(refusal),
+            Signed::Refused(refusal) => Located::Refused(refusal),
             Signed::Value(y, at) => match bits::read_signed(payload, limit, at, 3, DIFFERENTIAL_Z) {
-                Signed::Refused(refusal) => Updated::Refused(refusal),
-                Signed::Value(z, at) => {
-                    let old = row.picture.position;
-                    let steps = Position { x, y, z };
-                    place(payload, limit, at, stepped(old, steps), unsettle(row))
-                }
+                Signed::Refused(refusal) => Located::Refused(refusal),
+                Signed::Value(z, at) => Located::Is(at, true, Position { x, y, z }),
             },
         },
     }
 }
 
-fn stepped(old: Position, steps: Position) -> Position
-    ensures { λ r. ⌜ positionSaid r ≡ meaning.stepped (positionSaid steps) (positionSaid old) ⌝ }
-{
-    Position {
-        x: step(old.x, steps.x, 0, SIDE_LIMIT),
-        y: step(old.y, steps.y, 0, SIDE_LIMIT),
-        z: step(old.z, steps.z, -HEIGHT_LIMIT, HEIGHT_LIMIT),
-    }
-}
-
-// A step beyond an end stays there. The sum is taken at 32 bits, so that nothing is asked of either number.
-fn step(coordinate: i16, by: i16, low: i16, high: i16) -> i16
-    ensures { λ r. ⌜ r ≡ meaning.clamp low high (coordinate +ℤ by) ⌝ }
-{
-    let sum = (coordinate as i32) + (by as i32);
-    if sum < (low as i32) {
-        low
-    } else if (high as i32) < sum {
-        high
-    } else {
-        sum as i16
-    }
-}
-
-fn parse_absolute(payload: &[u8], limit: BitPlace, at: BitPlace, row: Row) -> Updated
-    ensures { λ r. ⌜ saidRow r ≡ pass.placePass (rowSaid row) standard.absolutely (now (payload .entry)) (limit .0) (at .0) ⌝ }
+fn read_absolute(payload: &[u8], limit: BitPlace, at: BitPlace) -> Located
+    ensures { λ r. ⌜ positionRead r ≡ standard.absolutely (now (payload .entry)) (limit .0) (at .0) ⌝ }
 {
     match bits::read(payload, limit, at, 6, POSITION_X) {
-        Number::Refused(refusal) => Updated::Refused(refusal),
+        Number::Refused(refusal) => Located::Refused(refusal),
         Number::Value(x, at) => match bits::read(payload, limit, at, 6, POSITION_Y) {
-            Number::Refused(refusal) => Updated::Refused(refusal),
+            Number::Refused(refusal) => Located::Refused(refusal),
             Number::Value(y, at) => match bits::read_flag(payload, limit, at, POSITION_Z_SIGN) {
-                Flag::Refused(refusal) => Updated::Refused(refusal),
+                Flag::Refused(refusal) => Located::Refused(refusal),
                 Flag::Is(positive, at) => match bits::read(payload, limit, at, 4, POSITION_Z) {
-                    Number::Refused(refusal) => Updated::Refused(refusal),
+                    Number::Refused(refusal) => Located::Refused(refusal),
                     Number::Value(z, at) => {
                         let position = Position {
                             x: coordinate(x),
                             y: coordinate(y),
                             z: height(positive, z),
                         };
-                        place(payload, limit, at, position, row)
+                        Located::Is(at, false, position)
                     }
                 },
             },
@@ -158,15 +143,6 @@ fn height(positive: bool, word: u32) -> i16
 }
 
 // The distance that may follow a position is dropped.
-fn place(payload: &[u8], limit: BitPlace, at: BitPlace, position: Position, row: Row) -> Updated
-    ensures { λ r. ⌜ saidRow r ≡ pass.pastDistance (pass.withPosition (positionSaid position) (rowSaid row)) (now (payload .entry)) (limit .0) (at .0) ⌝ }
-{
-    match skip_distance(payload, limit, at) {
-        Passed::Refused(refusal) => Updated::Refused(refusal),
-        Passed::To(at) => Updated::Row(at, with_position(row, position)),
-    }
-}
-
 fn skip_distance(payload: &[u8], limit: BitPlace, at: BitPlace) -> Passed
     ensures { λ r. ⌜ saidPassed r ≡ standard.distance (now (payload .entry)) (limit .0) (at .0) ⌝ }
 {

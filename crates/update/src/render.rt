@@ -1,10 +1,16 @@
-// Render information: an object's picture and its mark.
+// Render information: the words of an object's picture, group by group.
 ghost use mathlib.Core.Path.{_≡_};
-ghost use Rattle.bits.specs.Say.{said};
-ghost use Rattle.rows.specs.Say.{rowSaid};
-ghost use Rattle.update.specs.Passes as pass;
-ghost use Rattle.update.specs.Say.{saidRow};
-use crate::Updated;
+ghost use Prim.Native.Nat.{_≤_, _<_};
+ghost use Rattle.bits.specs.Bits.{isSet};
+ghost use Rattle.bits.specs.Parsed.{mapParsed, mapP, optional, placed};
+ghost use Rattle.bits.specs.Reads.{flag};
+ghost use Rattle.bits.specs.Say.{saidFlag};
+ghost use Rattle.standard.specs.Contexts as context;
+ghost use Rattle.standard.specs.Numbers.{sizeLimit};
+ghost use Rattle.standard.specs.Tree.{given};
+ghost use Rattle.standard.specs.Updates as standard;
+ghost use Rattle.rows.specs.Say.{sizeSaid};
+ghost use Rattle.update.specs.Say.{ifAsked, zoneRead, sizeRead, renderRead};
 use crate::contexts::DEPTH_FACTOR_INDEX;
 use crate::contexts::ELEVATION_ENABLED_FLAG;
 use crate::contexts::MIXED_RENDER_INFO_FLAGS;
@@ -17,189 +23,220 @@ use crate::contexts::OBJECT_WIDTH;
 use crate::contexts::SCREEN_FACTOR;
 use crate::contexts::SCREEN_REFERENCE_FLAG;
 use crate::contexts::ZONE_CONSTRAINTS_INDEX;
-use crate::position::parse_position;
-use crate::state::mark_or_before;
-use crate::state::settle;
-use crate::state::unsettle;
-use crate::state::with_lock;
-use crate::state::with_screen;
-use crate::state::with_size;
-use crate::state::with_zone;
+use crate::position::Located;
+use crate::position::read_position;
+use crate::statuses::read_parts;
+use crate::words::Groups;
+use crate::words::Render;
 use bits::BitPlace;
 use bits::Flag;
 use bits::Number;
 use bits::Refusal;
 use bits::is_set;
-use rows::numbers::SETTLED;
 use rows::numbers::ZONE_LIMIT;
-use rows::row::Row;
-use rows::row::default_picture;
+use rows::row::Size;
+use rows::row::Zone;
 
-pub fn parse_render_info(
+pub enum RenderRead {
+    Words(BitPlace, Render),
+    Refused(Refusal),
+}
+
+enum Zoned {
+    Is(BitPlace, Zone),
+    Refused(Refusal),
+}
+
+enum Sized {
+    Is(BitPlace, Size),
+    Refused(Refusal),
+}
+
+// The status was read at a place before.
+pub fn read_render_info(
     payload: &[u8],
     limit: BitPlace,
     at: BitPlace,
     status: u32,
+    status_at: BitPlace,
     first: bool,
-    row: Row,
-) -> Updated
-    ensures { λ r. ⌜ saidRow r ≡ pass.renderPass first status (rowSaid row) (now (payload .entry)) (limit .0) (at .0) ⌝ }
+) -> RenderRead
+    requires { ⌜ status < 4 ⌝ }
+    ensures { λ r. ⌜ renderRead r ≡ standard.render first («status_at» .0) status (now (payload .entry)) (limit .0) (at .0) ⌝ }
 {
-    match status {
-        0 => Updated::Row(at, reset_render_info(row)),
-        2 => Updated::Row(at, row),
-        _ => match read_render_flags(payload, limit, at, status) {
-            Number::Refused(refusal) => Updated::Refused(refusal),
-            Number::Value(flags, at) => parse_groups(payload, limit, at, flags, first, row),
+    // Even statuses have nothing behind them.
+    if status % 2 == 0 {
+        if status == 0 {
+            return RenderRead::Words(at, Render::Default(status_at));
+        }
+        return RenderRead::Words(at, Render::Kept);
+    }
+    match read_parts(payload, limit, at, status, 4, MIXED_RENDER_INFO_FLAGS) {
+        Number::Refused(refusal) => RenderRead::Refused(refusal),
+        Number::Value(flags, next) => read_groups(payload, limit, next, flags, first),
+    }
+}
+
+// Each group is read where the one before it ends.
+fn read_groups(payload: &[u8], limit: BitPlace, at: BitPlace, flags: u32, first: bool) -> RenderRead
+    ensures { λ r. ⌜ renderRead r ≡ mapP given (standard.groups first flags) (now (payload .entry)) (limit .0) (at .0) ⌝ }
+{
+    match read_position(payload, limit, at, flags, first) {
+        Located::Refused(refusal) => RenderRead::Refused(refusal),
+        Located::Is(zone_at, steps, position) => match read_zone(payload, limit, zone_at, flags) {
+            Zoned::Refused(refusal) => RenderRead::Refused(refusal),
+            Zoned::Is(size_at, zone) => match read_size(payload, limit, size_at, flags) {
+                Sized::Refused(refusal) => RenderRead::Refused(refusal),
+                Sized::Is(screen_at, size) => match read_screen(payload, limit, screen_at, flags) {
+                    Flag::Refused(refusal) => RenderRead::Refused(refusal),
+                    Flag::Is(screen, lock_at) => match read_lock(payload, limit, lock_at) {
+                        Flag::Refused(refusal) => RenderRead::Refused(refusal),
+                        Flag::Is(lock, end) => {
+                            let groups = Groups {
+                                flags,
+                                steps,
+                                position,
+                                position_at: at,
+                                zone,
+                                zone_at,
+                                size,
+                                size_at,
+                                screen: number_of(screen),
+                                screen_at,
+                                lock: number_of(lock),
+                                lock_at,
+                            };
+                            RenderRead::Words(end, Render::Given(groups))
+                        }
+                    },
+                },
+            },
         },
     }
 }
 
-// Status 1 says all groups; other statuses say by flags which.
-fn read_render_flags(payload: &[u8], limit: BitPlace, at: BitPlace, status: u32) -> Number
-    ensures { λ r. ⌜ said r ≡ pass.renderFlags status (now (payload .entry)) (limit .0) (at .0) ⌝ }
+fn number_of(flag: bool) -> i16
+    ensures { λ r. ⌜ r ≡ standard.bit flag ⌝ }
 {
-    if status == 1 {
-        return Number::Value(0b1111, at);
-    }
-    bits::read(payload, limit, at, 4, MIXED_RENDER_INFO_FLAGS)
+    if flag { 1 } else { 0 }
 }
 
-fn reset_render_info(mut row: Row) -> Row
-    ensures { λ r. ⌜ rowSaid r ≡ pass.reset (rowSaid row) ⌝ }
-{
-    row.picture = default_picture();
-    row.mark = SETTLED;
-    row
-}
-
-// The groups that the flags choose, then lock always. The mark begins settled; each group may take it away.
-fn parse_groups(
-    payload: &[u8],
-    limit: BitPlace,
-    at: BitPlace,
-    flags: u32,
-    first: bool,
-    row: Row,
-) -> Updated
-    ensures { λ r. ⌜ saidRow r ≡ pass.groupsPass first flags (rowSaid row) (now (payload .entry)) (limit .0) (at .0) ⌝ }
-{
-    let before = row.mark;
-    let placed = parse_position(payload, limit, at, flags, first, settle(row));
-    let Updated::Row(at, row) = placed else {
-        return placed;
-    };
-    let zoned = parse_zone(payload, limit, at, flags, row);
-    let Updated::Row(at, row) = zoned else {
-        return zoned;
-    };
-    let sized = parse_size(payload, limit, at, flags, row);
-    let Updated::Row(at, row) = sized else {
-        return sized;
-    };
-    let screened = parse_screen(payload, limit, at, flags, row);
-    let Updated::Row(at, row) = screened else {
-        return screened;
-    };
-    let locked = parse_lock(payload, limit, at, row);
-    let Updated::Row(at, row) = locked else {
-        return locked;
-    };
-    Updated::Row(at, mark_or_before(row, before))
-}
-
-fn parse_zone(payload: &[u8], limit: BitPlace, at: BitPlace, flags: u32, row: Row) -> Updated
-    ensures { λ r. ⌜ saidRow r ≡ pass.zonePass flags (rowSaid row) (now (payload .entry)) (limit .0) (at .0) ⌝ }
+fn read_zone(payload: &[u8], limit: BitPlace, at: BitPlace, flags: u32) -> Zoned
+    ensures { λ r. ⌜ ifAsked (isSet 2 flags) (at .0) (zoneRead r) ≡ optional (isSet 2 flags) (placed standard.zoneWord) (now (payload .entry)) (limit .0) (at .0) ⌝ }
 {
     if !is_set(flags, 2) {
-        return Updated::Row(at, unsettle(row));
+        return Zoned::Is(
+            at,
+            Zone {
+                zone: 0,
+                elevation: 0,
+            },
+        );
     }
     match bits::read(payload, limit, at, 3, ZONE_CONSTRAINTS_INDEX) {
-        Number::Refused(refusal) => Updated::Refused(refusal),
+        Number::Refused(refusal) => Zoned::Refused(refusal),
         Number::Value(zone, next) => {
             if zone > ZONE_LIMIT as u32 {
-                return Updated::Refused(Refusal::invalid(ZONE_CONSTRAINTS_INDEX, at));
+                return Zoned::Refused(Refusal::invalid(ZONE_CONSTRAINTS_INDEX, at));
             }
             match bits::read_flag(payload, limit, next, ELEVATION_ENABLED_FLAG) {
-                Flag::Refused(refusal) => Updated::Refused(refusal),
-                Flag::Is(elevated, next) => Updated::Row(next, with_zone(row, zone, elevated)),
+                Flag::Refused(refusal) => Zoned::Refused(refusal),
+                Flag::Is(elevated, next) => {
+                    let zone = Zone {
+                        zone: zone as i16,
+                        elevation: number_of(elevated),
+                    };
+                    Zoned::Is(next, zone)
+                }
             }
         }
     }
 }
 
-fn parse_size(payload: &[u8], limit: BitPlace, at: BitPlace, flags: u32, row: Row) -> Updated
-    ensures { λ r. ⌜ saidRow r ≡ pass.sizePass flags (rowSaid row) (now (payload .entry)) (limit .0) (at .0) ⌝ }
+fn read_size(payload: &[u8], limit: BitPlace, at: BitPlace, flags: u32) -> Sized
+    ensures { λ r. ⌜ ifAsked (isSet 1 flags) (at .0) (sizeRead r) ≡ optional (isSet 1 flags) (placed standard.sizeWord) (now (payload .entry)) (limit .0) (at .0) ⌝ }
 {
     if !is_set(flags, 1) {
-        return Updated::Row(at, unsettle(row));
+        return Sized::Is(at, size_of(0, 0, 0));
     }
     match bits::read(payload, limit, at, 2, OBJECT_SIZE_INDEX) {
-        Number::Refused(refusal) => Updated::Refused(refusal),
-        Number::Value(index, next) => match index {
-            0 => Updated::Row(next, with_size(row, 0, 0, 0)),
-            1 => match bits::read(payload, limit, next, 5, OBJECT_SIZE) {
-                Number::Refused(refusal) => Updated::Refused(refusal),
-                Number::Value(size, next) => Updated::Row(next, with_size(row, size, size, size)),
-            },
-            2 => parse_sizes(payload, limit, next, row),
-            _ => Updated::Refused(Refusal::invalid(OBJECT_SIZE_INDEX, at)),
-        },
+        Number::Refused(refusal) => Sized::Refused(refusal),
+        Number::Value(index, next) => {
+            if index % 2 == 0 {
+                if index == 0 {
+                    return Sized::Is(next, size_of(0, 0, 0));
+                }
+                return read_sizes(payload, limit, next);
+            }
+            if index != 1 {
+                return Sized::Refused(Refusal::invalid(OBJECT_SIZE_INDEX, at));
+            }
+            match bits::read(payload, limit, next, 5, OBJECT_SIZE) {
+                Number::Refused(refusal) => Sized::Refused(refusal),
+                Number::Value(size, next) => Sized::Is(next, size_of(size, size, size)),
+            }
+        }
     }
 }
 
-fn parse_sizes(payload: &[u8], limit: BitPlace, at: BitPlace, row: Row) -> Updated
-    ensures { λ r. ⌜ saidRow r ≡ pass.sizesPass (rowSaid row) (now (payload .entry)) (limit .0) (at .0) ⌝ }
+fn read_sizes(payload: &[u8], limit: BitPlace, at: BitPlace) -> Sized
+    ensures { λ r. ⌜ sizeRead r ≡ standard.threeSizes (now (payload .entry)) (limit .0) (at .0) ⌝ }
 {
     match bits::read(payload, limit, at, 5, OBJECT_WIDTH) {
-        Number::Refused(refusal) => Updated::Refused(refusal),
+        Number::Refused(refusal) => Sized::Refused(refusal),
         Number::Value(width, at) => match bits::read(payload, limit, at, 5, OBJECT_DEPTH) {
-            Number::Refused(refusal) => Updated::Refused(refusal),
+            Number::Refused(refusal) => Sized::Refused(refusal),
             Number::Value(depth, at) => match bits::read(payload, limit, at, 5, OBJECT_HEIGHT) {
-                Number::Refused(refusal) => Updated::Refused(refusal),
-                Number::Value(height, at) => {
-                    Updated::Row(at, with_size(row, width, depth, height))
-                }
+                Number::Refused(refusal) => Sized::Refused(refusal),
+                Number::Value(height, at) => Sized::Is(at, size_of(width, depth, height)),
             },
         },
     }
 }
 
-fn parse_screen(payload: &[u8], limit: BitPlace, at: BitPlace, flags: u32, row: Row) -> Updated
-    ensures { λ r. ⌜ saidRow r ≡ pass.screenPass flags (rowSaid row) (now (payload .entry)) (limit .0) (at .0) ⌝ }
+fn size_of(width: u32, depth: u32, height: u32) -> Size
+    requires { ⌜ (width ≤ sizeLimit) × (depth ≤ sizeLimit) × (height ≤ sizeLimit) ⌝ }
+    ensures { λ r. ⌜ sizeSaid r ≡ standard.sized width depth height ⌝ }
+{
+    Size {
+        width: width as i16,
+        depth: depth as i16,
+        height: height as i16,
+    }
+}
+
+// Two factors behind a set flag are dropped.
+fn read_screen(payload: &[u8], limit: BitPlace, at: BitPlace, flags: u32) -> Flag
+    ensures { λ r. ⌜ ifAsked (isSet 0 flags) (at .0) (mapParsed standard.bit (saidFlag r)) ≡ optional (isSet 0 flags) (placed standard.screenWord) (now (payload .entry)) (limit .0) (at .0) ⌝ }
 {
     if !is_set(flags, 0) {
-        return Updated::Row(at, unsettle(row));
+        return Flag::Is(false, at);
     }
     match bits::read_flag(payload, limit, at, SCREEN_REFERENCE_FLAG) {
-        Flag::Refused(refusal) => Updated::Refused(refusal),
-        Flag::Is(on, at) => {
-            let row = with_screen(row, on);
+        Flag::Refused(refusal) => Flag::Refused(refusal),
+        Flag::Is(on, next) => {
             if !on {
-                return Updated::Row(at, row);
+                return Flag::Is(false, next);
             }
-            match bits::read(payload, limit, at, 3, SCREEN_FACTOR) {
-                Number::Refused(refusal) => Updated::Refused(refusal),
-                Number::Value(_, at) => match bits::read(
+            match bits::read(payload, limit, next, 3, SCREEN_FACTOR) {
+                Number::Refused(refusal) => Flag::Refused(refusal),
+                Number::Value(_, next) => match bits::read(
                     payload,
                     limit,
-                    at,
+                    next,
                     2,
                     DEPTH_FACTOR_INDEX,
                 ) {
-                    Number::Refused(refusal) => Updated::Refused(refusal),
-                    Number::Value(_, at) => Updated::Row(at, row),
+                    Number::Refused(refusal) => Flag::Refused(refusal),
+                    Number::Value(_, next) => Flag::Is(true, next),
                 },
             }
         }
     }
 }
 
-fn parse_lock(payload: &[u8], limit: BitPlace, at: BitPlace, row: Row) -> Updated
-    ensures { λ r. ⌜ saidRow r ≡ pass.lockPass (rowSaid row) (now (payload .entry)) (limit .0) (at .0) ⌝ }
+fn read_lock(payload: &[u8], limit: BitPlace, at: BitPlace) -> Flag
+    ensures { λ r. ⌜ saidFlag r ≡ flag context.object-snap-flag (now (payload .entry)) (limit .0) (at .0) ⌝ }
 {
-    match bits::read_flag(payload, limit, at, OBJECT_SNAP_FLAG) {
-        Flag::Refused(refusal) => Updated::Refused(refusal),
-        Flag::Is(on, at) => Updated::Row(at, with_lock(row, on)),
-    }
+    bits::read_flag(payload, limit, at, OBJECT_SNAP_FLAG)
 }

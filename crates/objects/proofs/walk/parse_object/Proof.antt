@@ -6,9 +6,11 @@ use borrow.Author.Needs.{needs}
 use mir.Syntax.{w16}
 use mir.Val.{toZ, ofZ}
 use Rattle.standard.specs.Numbers.{rowWidth}
+use Rattle.standard.specs.Meaning.{updated}
 use Rattle.rows.specs.Say.{rowSaid}
 use Rattle.rows.specs.Kinds.{kindOf}
 use Rattle.rows.proofs.Tests.{back}
+use Rattle.update.specs.Say.{updateSaid}
 use Rattle.objects.specs.Fills.{Filling}
 use Rattle.objects.specs.Walk.{place, gainBefore, columnFrom}
 use Rattle.objects.proofs.Places.{within}
@@ -32,13 +34,13 @@ loop-holds c =
     let k : m - 0 ≡ m = omega arith in
     (omega arith, begin (rw k))
 
--- back from a row that was put, from an update, and from a turn of the loop
+-- back from what was done with the words, from their reading, and from a turn of the loop
 
-abbrev read : tie.After-put-row-arg Inv-loop μ-loop → tie.After-next Inv-loop μ-loop
-read c = c .before .before
+abbrev words : tie.After-apply Inv-loop μ-loop → tie.After-next Inv-loop μ-loop
+words c = c .before .before .before .before .before
 
-abbrev turn : tie.After-parse-update Inv-loop μ-loop → tie.In-loop Inv-loop μ-loop
-turn c = c .before .before .before .before
+abbrev turn : tie.After-read-update Inv-loop μ-loop → tie.In-loop Inv-loop μ-loop
+turn c = c .before .before
 
 abbrev entry : tie.In-loop Inv-loop μ-loop → tie.Start Inv-loop μ-loop
 entry c = c .before .before .before
@@ -49,41 +51,44 @@ room : (c : tie.In-loop Inv-loop μ-loop) →
     place (k .objects) (c .before .loop .block) (k .object) + rowWidth ≤ k .blocks * k .objects * rowWidth
 room c = within _ _ _ _ (c .loop-test .taken) (entry c .pre .0)
 
--- the kind and the gain before are handed on as their bits
-kind : (c : tie.After-parse-update Inv-loop μ-loop) → let k = entry (turn c) .args .column .kind in kindOf (toZ w16 (ofZ w16 k)) ≡ kindOf k
-kind c = ap kindOf (back {z = entry (turn c) .args .column .kind} (c .before .struct-told .given .0 .1))
+-- the kind is handed on as its bits
+kind : (c : tie.After-struct-told Inv-loop μ-loop) → let k = entry (c .before) .args .column .kind in toZ w16 (ofZ w16 k) ≡ k
+kind c = back {z = entry (c .before) .args .column .kind} (c .struct-told .given .0 .1)
 
-gain : (c : tie.After-gain-before Inv-loop μ-loop) →
-    let l = c .before .before .before .loop in
-    let k = entry (c .before .before) .args .column in
-    toZ w16 (ofZ w16 (c .gain-before .result)) ≡ gainBefore (k .objects) (l .block) (k .object) (l .blocks)
-gain c = back {z = c .gain-before .result} (c .gain-before .ok) ∙ c .gain-before .ensures
+-- what the words do
+row : (c : tie.After-apply Inv-loop μ-loop) →
+    let l = turn (words c .before .before) in
+    let k = entry l .args .column in
+    rowSaid (c .apply .result) ≡ updated (kindOf (k .kind)) (gainBefore (k .objects) (l .before .loop .block) (k .object) (l .before .loop .blocks)) (updateSaid (words c .next .given .0 .1 .0)) (rowSaid (l .before .loop .row))
+row c =
+    let g = c .before .before in
+    rw (kind (words c .before .before .before), back {z = g .gain-before .result} (g .gain-before .ok) ∙ g .gain-before .ensures) at (c .apply .ensures)
 
 returns : tie.Need-returns Inv-loop μ-loop
 returns c =
     let r = c .before .before .before in
     let l = turn r in
-    block-read _ _ _ _ _ _ _ _ _ (l .before .loop .inv .1) (l .loop-test .taken) (r .parse-update .ensures) (kind r) (gain (r .before .before)) (c .before .refusal .given .1)
+    block-read _ _ _ _ _ _ _ _ _ (l .before .loop .inv .1) (l .loop-test .taken) (r .read-update .ensures) (ap kindOf (kind (r .before))) (c .before .refusal .given .1)
 
 row-place-requires : tie.Need-row-place-requires Inv-loop μ-loop
-row-place-requires c κs = let l = turn (read c .before .before) in omega (arith, room l, entry l .good)
+row-place-requires c κs = let l = turn (words (c .before) .before .before) in omega (arith, room l, entry l .good)
 
 put-row-requires : tie.Need-put-row-requires Inv-loop μ-loop
 put-row-requires c κs =
-    let l = turn (read (c .before) .before .before) in
+    let l = turn (words (c .before .before) .before .before) in
     omega (arith, c .row-place .ensures, room l, l .before .loop .inv .1 .long)
 
 add-block : tie.Need-add-block Inv-loop μ-loop
 add-block c =
-    let l = turn (read (c .before .before .before) .before .before) in
+    let l = turn (words (c .before .before .before .before) .before .before) in
     omega (arith, l .loop-test .taken, entry l .good)
 
 loop-again : tie.Need-loop-again Inv-loop μ-loop
 loop-again c =
-    let s = read (c .before .before .before) in
-    let r = s .before .before in
+    let a = c .before .before .before .before in
+    let r = words a .before .before in
     let l = turn r in
-    (omega arith, rw (c .before .put-row .ensures, c .before .before .row-place .ensures) (put-within _ _ (block-read _ _ _ _ _ _ _ _ _ (l .before .loop .inv .1) (l .loop-test .taken) (r .parse-update .ensures) (kind r) (gain (r .before .before)) (s .next .given .1)) (room l)))
+    (omega arith, rw (c .before .put-row .ensures, c .before .before .row-place .ensures, row a) (put-within _ _ (block-read _ _ _ _ _ _ _ _ _ (l .before .loop .inv .1) (l .loop-test .taken) (r .read-update .ensures) (ap kindOf (kind (r .before))) (words a .next .given .1)) (room l)))
 
 returns-2 : tie.Need-returns-2 Inv-loop μ-loop
 returns-2 c = to (c .before .loop .inv .1) (blocks-done _ _ _ _ _ _ _ _ _ _ (c .loop-test .left))
@@ -92,19 +97,8 @@ pub parse-object-spec : {M : Type 1} → statement M
 parse-object-spec =
     tie.close
     (tie.spec
-    Inv-loop
-    μ-loop
-    loop-holds
-    (λ c κs. omega (arith, room (c .before), c .before .before .loop .inv .1 .long))
-    (λ c κs. search needs)
-    (λ c. search needs)
-    (λ c. turn (c .before .before .before) .before .loop .inv .1 .long)
-    returns
-    (λ c. search needs)
-    row-place-requires
-    put-row-requires
-    add-block
-    (λ c. omega arith)
-    loop-again
-    (λ c. c .before .loop .inv .1 .long)
-    returns-2)
+    Inv-loop μ-loop loop-holds (λ c κs. search needs) (λ c. search needs)
+    (λ c. turn (c .before .before .before) .before .loop .inv .1 .long) returns (λ c. search needs)
+    (λ c κs. let l = turn (c .before .before .before .before) in omega (arith, room l, l .before .loop .inv .1 .long))
+    (λ c κs. search needs) row-place-requires put-row-requires add-block (λ c. omega arith) loop-again
+    (λ c. c .before .loop .inv .1 .long) returns-2)

@@ -1,12 +1,11 @@
 -- `update::position::read_differential` meets its contract.
 use borrow.Author.Needs.{needs}
 use Rattle.bits.specs.Parsed.{pure}
-use Rattle.update.specs.Passes.{stepsRead}
 use Rattle.update.proofs.position.read_differential.Statement.{statement}
 use Rattle.update.proofs.position.read_differential.Tie as tie
 
 pub read-differential-spec : {M : Type 1} → statement M
-unfolding stepsRead pure
+unfolding pure
 read-differential-spec =
     tie.close
     (tie.spec

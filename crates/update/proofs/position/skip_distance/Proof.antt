@@ -1,76 +1,47 @@
 -- `update::position::skip_distance` meets its contract.
+use mathlib.Core.Bool.{cond}
+use mathlib.Core.Path.{_≡_}
 use borrow.Author.Needs.{needs}
 use borrow.Author.Tests.{not-true, not-false}
-use Rattle.bits.specs.Parsed.{_>>=_, mapP, pure}
+use Rattle.bits.specs.Parsed.{andThen, mapParsed, _>>=_, mapP, pure}
+use Rattle.bits.specs.Reads.{read}
+use Rattle.bits.specs.Say.{said, saidFlag}
+use Rattle.bits.proofs.Laws.{came}
+use Rattle.standard.specs.Contexts as context
 use Rattle.standard.specs.Updates.{distance}
 use Rattle.update.proofs.position.skip_distance.Statement.{statement}
 use Rattle.update.proofs.position.skip_distance.Tie as tie
 
-returns-2 : tie.Need-returns-2
-unfolding distance _>>=_ mapP pure
-returns-2 c =
-    let infinite = c .before .before in
-    let specified = infinite .before .before .before .before .before in
-    rw (
-      ← (specified .before .before .read-flag .ensures),
-      specified .specified .given .1,
-      not-false (specified .specified .given .0 .0) (infinite .before .before .before .if1 .left),
-      ← (infinite .before .before .read-flag2 .ensures),
-      infinite .infinite .given .1,
-      c .if2 .taken,
-    )
+-- a distance is specified, and whether it is infinite was read, or refused
+at-infinity : (c : tie.After-read-flag2) →
+    let a = c .before .before .before .before .before .before .before .args in
+    distance (a .payload .now) (a .limit .0) (a .at .0)
+    ≡ andThen (saidFlag (c .read-flag2 .result)) (λ infinite q. cond infinite (pure tt) (mapP (λ v. tt) (read 4 context.distance-factor-index)) (a .payload .now) (a .limit .0) q)
+unfolding distance _>>=_
+at-infinity c =
+    let specified = c .before .before .before in
+    rw (came saidFlag (specified .before .before .read-flag .ensures) (specified .specified .given .1), not-false (specified .specified .given .0 .0) (c .before .if1 .left), c .read-flag2 .ensures)
 
-returns-4 : tie.Need-returns-4
-unfolding distance _>>=_ mapP pure
-returns-4 c =
-    let specified = c .before .before .before .before .before .before in
-    rw (
-      ← (specified .before .before .read-flag .ensures),
-      specified .specified .given .1,
-      not-false (specified .specified .given .0 .0) (c .before .before .before .before .if1 .left),
-      ← (c .before .before .before .read-flag2 .ensures),
-      c .before .refusal2 .given .1,
-    )
-
-returns-5 : tie.Need-returns-5
-unfolding distance _>>=_ mapP pure
-returns-5 c =
-    let infinite = c .before .before .before .before .before .before in
-    let specified = infinite .before .before .before .before .before in
-    rw (
-      ← (specified .before .before .read-flag .ensures),
-      specified .specified .given .1,
-      not-false (specified .specified .given .0 .0) (infinite .before .before .before .if1 .left),
-      ← (infinite .before .before .read-flag2 .ensures),
-      infinite .infinite .given .1,
-      c .before .before .before .before .if2 .left,
-      ← (c .before .before .before .read .ensures),
-      c .before .refusal3 .given .1,
-    )
-
-returns-6 : tie.Need-returns-6
-unfolding distance _>>=_ mapP pure
-returns-6 c =
-    let infinite = c .before .before .before .before .before .before in
-    let specified = infinite .before .before .before .before .before in
-    rw (
-      ← (specified .before .before .read-flag .ensures),
-      specified .specified .given .1,
-      not-false (specified .specified .given .0 .0) (infinite .before .before .before .if1 .left),
-      ← (infinite .before .before .read-flag2 .ensures),
-      infinite .infinite .given .1,
-      c .before .before .before .before .if2 .left,
-      ← (c .before .before .before .read .ensures),
-      c .before .at .given .1,
-    )
+-- and the factor
+at-factor : (c : tie.After-read) →
+    let a = c .before .before .before .before .before .before .before .before .before .before .before .before .args in
+    distance (a .payload .now) (a .limit .0) (a .at .0) ≡ mapParsed (λ v. tt) (said (c .read .result))
+unfolding mapP
+at-factor c =
+    let infinite = c .before .before .before in
+    rw (at-infinity (infinite .before .before), infinite .infinite .given .1, c .before .if2 .left, c .read .ensures)
 
 pub skip-distance-spec : {M : Type 1} → statement M
-unfolding distance _>>=_ mapP pure
+unfolding distance _>>=_ pure
 skip-distance-spec =
     tie.close
     (tie.spec
     (λ c κs. search needs) (λ c. search needs) (λ c. search needs)
-    (λ c. rw (← (c .before .before .before .before .read-flag .ensures), c .before .before .specified .given .1, not-true (c .before .before .specified .given .0 .0) (c .if1 .taken)))
-    (λ c κs. search needs) (λ c. search needs) (λ c. search needs) returns-2 (λ c κs. search needs) (λ c. search needs)
-    (λ c. search needs) (λ c. rw (← (c .before .before .before .read-flag .ensures), c .before .refusal .given .1))
-    returns-4 returns-5 returns-6)
+    (λ c. let specified = c .before .before in rw (came saidFlag (specified .before .before .read-flag .ensures) (specified .specified .given .1), not-true (specified .specified .given .0 .0) (c .if1 .taken)))
+    (λ c κs. search needs) (λ c. search needs) (λ c. search needs)
+    (λ c. let infinite = c .before .before in rw (at-infinity (infinite .before .before), infinite .infinite .given .1, c .if2 .taken))
+    (λ c κs. search needs) (λ c. search needs) (λ c. search needs)
+    (λ c. rw (came saidFlag (c .before .before .before .read-flag .ensures) (c .before .refusal .given .1)))
+    (λ c. rw (at-infinity (c .before .before .before), c .before .refusal2 .given .1))
+    (λ c. rw (at-factor (c .before .before .before), c .before .refusal3 .given .1))
+    (λ c. rw (at-factor (c .before .before .before), c .before .at .given .1)))

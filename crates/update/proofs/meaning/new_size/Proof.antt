@@ -1,0 +1,11 @@
+-- `update::meaning::new_size` meets its contract.
+use borrow.Author.Needs.{needs}
+use Rattle.update.proofs.meaning.new_size.Statement.{statement}
+use Rattle.update.proofs.meaning.new_size.Tie as tie
+
+pub new-size-spec : {M : Type 1} → statement M
+new-size-spec =
+    tie.close
+    (tie.spec
+    (λ c κs. search needs) (λ c. rw (← (c .before .before .is-set .ensures), c .before .if1 .taken))
+    (λ c. rw (← (c .before .is-set .ensures), c .if1 .left)))

@@ -1,0 +1,190 @@
+// What the words of one object in one block do to its row. It cannot refuse.
+ghost use mathlib.Core.Path.{_≡_};
+ghost use mathlib.Core.Bool.{cond};
+ghost use Prim.Native.Nat.{_<_};
+ghost use lib.IntN.{_+ℤ_};
+ghost use Rattle.bits.specs.Bits.{isSet};
+ghost use Rattle.standard.specs.Tree.{given};
+ghost use Rattle.standard.specs.Marks as marks;
+ghost use Rattle.standard.specs.Meaning as meaning;
+ghost use Rattle.rows.specs.Kinds.{kindOf};
+ghost use Rattle.rows.specs.Say.{positionSaid, zoneSaid, sizeSaid, pictureSaid, rowSaid};
+ghost use Rattle.update.specs.Say.{gainWordSaid, basicSaid, groupsSaid, renderSaid, updateSaid};
+use crate::words::Basic;
+use crate::words::Groups;
+use crate::words::Render;
+use crate::words::Update;
+use bits::is_set;
+use rows::numbers::HEIGHT_LIMIT;
+use rows::numbers::SETTLED;
+use rows::numbers::SIDE_LIMIT;
+use rows::numbers::SILENCE;
+use rows::row::Picture;
+use rows::row::Position;
+use rows::row::Row;
+use rows::row::Size;
+use rows::row::Zone;
+use rows::row::default_picture;
+use rows::row::is_dynamic;
+use rows::row::kind_of;
+
+// `row` is the row before; the previous gain is that of the preceding object in this block, 0 before object 0.
+pub fn apply(words: Update, kind: i16, previous_gain: i16, row: Row) -> Row
+    ensures { λ r. ⌜ rowSaid r ≡ meaning.updated (kindOf kind) «previous_gain» (updateSaid words) (rowSaid row) ⌝ }
+{
+    let dynamic = is_dynamic(kind);
+    let picture = row.picture;
+    match words {
+        Update::Inactive(_) => Row {
+            kind: kind_of(kind),
+            active: 0,
+            gain: SILENCE,
+            priority: 0,
+            picture,
+            mark: row_mark(dynamic, Render::Kept, row.mark),
+        },
+        Update::Active(basic, render) => Row {
+            kind: kind_of(kind),
+            active: 1,
+            gain: new_gain(basic, previous_gain, row.gain),
+            priority: or_before(basic.flags, 0, basic.priority, row.priority),
+            picture: row_picture(dynamic, render, picture),
+            mark: row_mark(dynamic, render, row.mark),
+        },
+    }
+}
+
+// What is said, or else what was before.
+fn or_before(flags: u32, bit: usize, said: i16, before: i16) -> i16
+    requires { ⌜ bit < 32 ⌝ }
+    ensures { λ r. ⌜ r ≡ cond (isSet bit flags) «said» «before» ⌝ }
+{
+    if is_set(flags, bit) { said } else { before }
+}
+
+fn new_gain(basic: Basic, previous: i16, before: i16) -> i16
+    ensures { λ r. ⌜ r ≡ meaning.newGain «previous» (basicSaid basic .gain) «before» ⌝ }
+{
+    or_before(basic.flags, 1, gain_said(basic, previous), before)
+}
+
+fn gain_said(basic: Basic, previous: i16) -> i16
+    ensures { λ r. ⌜ r ≡ meaning.gainSaid «previous» (gainWordSaid (basic .copied) (basic .gain)) ⌝ }
+{
+    let copied = copied_gain(previous);
+    if basic.copied { copied } else { basic.gain }
+}
+
+// Silence is copied as 0 dB.
+fn copied_gain(previous: i16) -> i16
+    ensures { λ r. ⌜ r ≡ meaning.copiedGain previous ⌝ }
+{
+    if previous == SILENCE { 0 } else { previous }
+}
+
+// Fixed kinds keep their picture.
+fn row_picture(dynamic: bool, render: Render, before: Picture) -> Picture
+    ensures { λ r. ⌜ pictureSaid r ≡ cond dynamic (meaning.newPicture (renderSaid render) (pictureSaid before)) (pictureSaid before) ⌝ }
+{
+    if !dynamic {
+        return before;
+    }
+    match render {
+        Render::Default(_) => default_picture(),
+        Render::Kept => before,
+        Render::Given(groups) => new_picture(groups, before),
+    }
+}
+
+fn new_picture(groups: Groups, before: Picture) -> Picture
+    ensures { λ r. ⌜ pictureSaid r ≡ meaning.newPicture (given (groupsSaid groups)) (pictureSaid before) ⌝ }
+{
+    Picture {
+        position: new_position(groups, before.position),
+        zone: new_zone(groups, before.zone),
+        size: new_size(groups, before.size),
+        screen: or_before(groups.flags, 0, groups.screen, before.screen),
+        lock: groups.lock,
+    }
+}
+
+fn new_position(groups: Groups, before: Position) -> Position
+    ensures { λ r. ⌜ positionSaid r ≡ meaning.newPosition (groupsSaid groups .position) (positionSaid before) ⌝ }
+{
+    let said = is_set(groups.flags, 3);
+    if said & groups.steps {
+        return stepped(groups.position, before);
+    }
+    if said { groups.position } else { before }
+}
+
+fn stepped(steps: Position, before: Position) -> Position
+    ensures { λ r. ⌜ positionSaid r ≡ meaning.stepped (positionSaid steps) (positionSaid before) ⌝ }
+{
+    Position {
+        x: step(before.x, steps.x, 0, SIDE_LIMIT),
+        y: step(before.y, steps.y, 0, SIDE_LIMIT),
+        z: step(before.z, steps.z, -HEIGHT_LIMIT, HEIGHT_LIMIT),
+    }
+}
+
+// A step beyond an end stays there. The sum is taken at 32 bits, so that nothing is asked of either number.
+fn step(coordinate: i16, by: i16, low: i16, high: i16) -> i16
+    ensures { λ r. ⌜ r ≡ meaning.clamp low high (coordinate +ℤ by) ⌝ }
+{
+    let sum = (coordinate as i32) + (by as i32);
+    if sum < (low as i32) {
+        low
+    } else if (high as i32) < sum {
+        high
+    } else {
+        sum as i16
+    }
+}
+
+fn new_zone(groups: Groups, before: Zone) -> Zone
+    ensures { λ r. ⌜ zoneSaid r ≡ meaning.orBefore (groupsSaid groups .zone) (zoneSaid before) ⌝ }
+{
+    if is_set(groups.flags, 2) {
+        groups.zone
+    } else {
+        before
+    }
+}
+
+fn new_size(groups: Groups, before: Size) -> Size
+    ensures { λ r. ⌜ sizeSaid r ≡ meaning.orBefore (groupsSaid groups .size) (sizeSaid before) ⌝ }
+{
+    if is_set(groups.flags, 1) {
+        groups.size
+    } else {
+        before
+    }
+}
+
+// Fixed kinds are settled in every block.
+fn row_mark(dynamic: bool, render: Render, before: i16) -> i16
+    ensures { λ r. ⌜ r ≡ cond dynamic (marks.newMark (renderSaid render) «before») marks.settled ⌝ }
+{
+    if !dynamic {
+        return SETTLED;
+    }
+    match render {
+        Render::Default(_) => SETTLED,
+        Render::Kept => before,
+        Render::Given(groups) => new_mark(groups, before),
+    }
+}
+
+// Every group said, and the position in full, settles the picture.
+fn new_mark(groups: Groups, before: i16) -> i16
+    ensures { λ r. ⌜ r ≡ marks.newMark (given (groupsSaid groups)) «before» ⌝ }
+{
+    let flags = groups.flags;
+    let placed = is_set(flags, 3) & !groups.steps;
+    if placed & is_set(flags, 2) & is_set(flags, 1) & is_set(flags, 0) {
+        SETTLED
+    } else {
+        before
+    }
+}

@@ -2,12 +2,13 @@
 use mathlib.Core.Path.{_≡_}
 use borrow.Author.Needs.{needs}
 use mir.Facts.{toZ-ofZ}
-use Rattle.bits.specs.Parsed.{_>>=_, pure, here}
+use Rattle.bits.specs.Parsed.{andThen, _>>=_, pure, here}
 use Rattle.bits.specs.Say.{said}
 use Rattle.bits.proofs.Laws.{came, gives}
+use Rattle.standard.specs.Tree.{active}
 use Rattle.standard.specs.Updates.{renderOf, activeUpdate}
 use Rattle.rows.specs.Kinds.{kindOf}
-use Rattle.update.specs.Say.{renderRead, basicRead}
+use Rattle.update.specs.Say.{basicSaid, basicRead, renderRead}
 use Rattle.update.proofs.Bounds.{status-lt}
 use Rattle.update.proofs.read_state.Statement.{statement}
 use Rattle.update.proofs.read_state.Tie as tie
@@ -15,46 +16,25 @@ use Rattle.update.proofs.read_state.Tie as tie
 read-basic-info-requires : tie.Need-read-basic-info-requires
 read-basic-info-requires c κs = gives said (status-lt _ _) (c .before .before .before .read-status .ensures) (c .before .status .given .1)
 
-abbrev entry : tie.After-read-render-of → tie.Start
-entry c = c .before .before .before .before .before .before .before .before .before .before .before
+-- basic information was read, or refused
+at-basic : (c : tie.After-read-basic-info) →
+    let a = c .before .before .before .before .before .before .before .args in
+    activeUpdate (kindOf (a .kind)) (a .first) (a .payload .now) (a .limit .0) (a .at .0)
+    ≡ andThen (basicRead (c .read-basic-info .result)) (λ b. (renderOf (kindOf (a .kind)) (a .first) >>= λ r. pure (active b r)) (a .payload .now) (a .limit .0))
+unfolding activeUpdate _>>=_ here
+at-basic c =
+    let status = c .before .before in
+    rw (came said (status .before .before .read-status .ensures) (status .status .given .1), c .read-basic-info .ensures)
 
--- the kind is handed on as its bits
-render-read : (c : tie.After-read-render-of) →
-    let a = entry c .args in
-    renderRead (c .read-render-of .result) ≡ renderOf (kindOf (a .kind)) (a .first) (a .payload .now) (a .limit .0) (c .before .before .next .given .0 .0 .0)
-render-read c = rw (toZ-ofZ (entry c .fits .kind)) at (c .read-render-of .ensures)
-
-returns-3 : tie.Need-returns-3
-unfolding activeUpdate _>>=_ pure here
-returns-3 c =
-    let status = c .before .before .before .before .before in
-    rw (status .before .before .before .if1 .left, came said (status .before .before .read-status .ensures) (status .status .given .1), came basicRead (c .before .before .before .read-basic-info .ensures) (c .before .refusal2 .given .1))
-
-returns-4 : tie.Need-returns-4
-unfolding activeUpdate _>>=_ pure here
-returns-4 c =
-    let basic = c .before .before .before .before .before in
-    let status = basic .before .before .before .before in
-    rw (
-      status .before .before .before .if1 .left,
-      came said (status .before .before .read-status .ensures) (status .status .given .1),
-      came basicRead (basic .before .before .read-basic-info .ensures) (basic .next .given .1),
-      ← render-read (c .before .before .before),
-      c .before .refusal3 .given .1,
-    )
-
-returns-5 : tie.Need-returns-5
-unfolding activeUpdate _>>=_ pure here
-returns-5 c =
-    let basic = c .before .before .before .before .before in
-    let status = basic .before .before .before .before in
-    rw (
-      status .before .before .before .if1 .left,
-      came said (status .before .before .read-status .ensures) (status .status .given .1),
-      came basicRead (basic .before .before .read-basic-info .ensures) (basic .next .given .1),
-      ← render-read (c .before .before .before),
-      c .before .end .given .1,
-    )
+-- and render information; the kind is handed on as its bits
+at-render : (c : tie.After-read-render-of) →
+    let a = c .before .before .before .before .before .before .before .before .before .before .before .args in
+    activeUpdate (kindOf (a .kind)) (a .first) (a .payload .now) (a .limit .0) (a .at .0)
+    ≡ andThen (renderRead (c .read-render-of .result)) (λ r. pure (active (basicSaid (c .before .before .next .given .0 .1 .0)) r) (a .payload .now) (a .limit .0))
+unfolding _>>=_
+at-render c =
+    let basic = c .before .before in
+    rw (at-basic (basic .before .before), basic .next .given .1, c .read-render-of .ensures, toZ-ofZ (basic .before .before .before .before .before .before .before .before .before .fits .kind))
 
 pub read-state-spec : {M : Type 1} → statement M
 unfolding activeUpdate _>>=_ pure here
@@ -64,4 +44,6 @@ read-state-spec =
     (λ c. rw (c .if1 .taken)) (λ c κs. search needs) (λ c. search needs) (λ c. search needs) read-basic-info-requires
     (λ c. search needs) (λ c. search needs) (λ c κs. search needs) (λ c. search needs) (λ c. search needs)
     (λ c. rw (c .before .before .before .before .if1 .left, came said (c .before .before .before .read-status .ensures) (c .before .refusal .given .1)))
-    returns-3 returns-4 returns-5)
+    (λ c. rw (c .before .before .before .before .before .before .before .before .if1 .left, at-basic (c .before .before .before), c .before .refusal2 .given .1))
+    (λ c. rw (c .before .before .before .before .before .before .before .before .before .before .before .before .if1 .left, at-render (c .before .before .before), c .before .refusal3 .given .1))
+    (λ c. rw (c .before .before .before .before .before .before .before .before .before .before .before .before .if1 .left, at-render (c .before .before .before), c .before .end .given .1)))

@@ -1,54 +1,28 @@
 -- `update::position::read_position` meets its contract.
-use mathlib.Core.Bool.{true}
-use mathlib.Core.Path.{_≡_}
+use mathlib.Core.Path.{_≡_, _∙_}
 use borrow.Author.Needs.{needs}
 use Rattle.bits.specs.Bits.{isSet}
-use Rattle.bits.specs.Parsed.{_>>=_, _>>_, mapP, pure, optional, placed}
+use Rattle.bits.specs.Parsed.{andThen, _>>=_, _>>_, mapP, pure, optional, placed}
 use Rattle.bits.specs.Say.{saidFlag, saidPassed}
 use Rattle.bits.proofs.Laws.{came}
-use Rattle.standard.specs.Updates.{positionWord}
-use Rattle.update.specs.Say.{positionRead}
+use Rattle.standard.specs.Updates.{differential, absolutely, distance, positionWord}
+use Rattle.update.specs.Say.{ifAsked, positionRead}
+use Rattle.update.proofs.AskedWords.{when-asked}
 use Rattle.update.proofs.Numbers.{unset, set}
 use Rattle.update.proofs.position.read_position.Statement.{statement}
 use Rattle.update.proofs.position.read_position.Tie as tie
 
-asked : (c : tie.Else1) → isSet 3 (c .before .before .before .args .flags) ≡ true
-asked c = set (c .before .is-set .ensures) (c .if1 .left)
-
-returns-2 : tie.Need-returns-2
-unfolding positionWord _>>=_ _>>_ mapP pure optional placed
-returns-2 c =
-    let differential = c .before .before .before .before in
-    rw (
-      asked (differential .before .before .before),
-      came saidFlag (differential .before .before .read-differential .ensures) (differential .differential .given .1),
-      ← (c .before .before .read-place .ensures),
-      c .enum-told .given .1,
-    )
-
-returns-4 : tie.Need-returns-4
-unfolding positionWord _>>=_ _>>_ mapP pure optional placed
-returns-4 c =
-    let place = c .before .before .before .before .before in
-    let differential = place .before .before .before .before in
-    rw (
-      asked (differential .before .before .before),
-      came saidFlag (differential .before .before .read-differential .ensures) (differential .differential .given .1),
-      came positionRead (place .before .before .read-place .ensures) (place .place .given .1),
-      came saidPassed (c .before .before .before .skip-distance .ensures) (c .before .refusal2 .given .1),
-    )
-
-returns-5 : tie.Need-returns-5
-unfolding positionWord _>>=_ _>>_ mapP pure optional placed
-returns-5 c =
-    let place = c .before .before .before .before .before in
-    let differential = place .before .before .before .before in
-    rw (
-      asked (differential .before .before .before),
-      came saidFlag (differential .before .before .read-differential .ensures) (differential .differential .given .1),
-      came positionRead (place .before .before .read-place .ensures) (place .place .given .1),
-      came saidPassed (c .before .before .before .skip-distance .ensures) (c .before .next .given .1),
-    )
+-- a position is said: its place was read, or refused
+at-place : (c : tie.After-read-place) →
+    let a = c .before .before .before .before .before .before .before .before .args in
+    optional (isSet 3 (a .flags)) (placed (positionWord (a .first))) (a .payload .now) (a .limit .0) (a .at .0)
+    ≡ ifAsked (isSet 3 (a .flags)) (a .at .0) (andThen (positionRead (c .read-place .result)) (λ w. (distance >> pure w) (a .payload .now) (a .limit .0)))
+unfolding positionWord _>>=_
+at-place c =
+    let differential = c .before .before in
+    let flag = differential .before .before .before in
+    when-asked (positionWord (flag .before .before .before .args .first)) _ _ _ (set (flag .before .is-set .ensures) (flag .if1 .left))
+    ∙ rw (came saidFlag (differential .before .before .read-differential .ensures) (differential .differential .given .1), c .read-place .ensures)
 
 pub read-position-spec : {M : Type 1} → statement M
 unfolding optional pure positionWord _>>=_ _>>_ mapP placed
@@ -56,7 +30,8 @@ read-position-spec =
     tie.close
     (tie.spec
     (λ c κs. search needs) (λ c. rw (unset (c .before .is-set .ensures) (c .if1 .taken))) (λ c κs. search needs)
-    (λ c. search needs) (λ c. search needs) (λ c κs. search needs) (λ c. search needs) (λ c. search needs) returns-2
-    (λ c κs. search needs) (λ c. search needs) (λ c. search needs)
-    (λ c. rw (asked (c .before .before .before .before), came saidFlag (c .before .before .before .read-differential .ensures) (c .before .refusal .given .1)))
-    returns-4 returns-5)
+    (λ c. search needs) (λ c. search needs) (λ c κs. search needs) (λ c. search needs) (λ c. search needs)
+    (λ c. rw (at-place (c .before .before), c .enum-told .given .1)) (λ c κs. search needs) (λ c. search needs) (λ c. search needs)
+    (λ c. let flag = c .before .before .before .before in rw (set (flag .before .is-set .ensures) (flag .if1 .left), came saidFlag (c .before .before .before .read-differential .ensures) (c .before .refusal .given .1)))
+    (λ c. let place = c .before .before .before .before .before in rw (at-place (place .before .before), place .place .given .1, came saidPassed (c .before .before .before .skip-distance .ensures) (c .before .refusal2 .given .1)))
+    (λ c. let place = c .before .before .before .before .before in rw (at-place (place .before .before), place .place .given .1, came saidPassed (c .before .before .before .skip-distance .ensures) (c .before .next .given .1))))

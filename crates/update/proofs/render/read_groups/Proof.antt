@@ -1,63 +1,51 @@
 -- `update::render::read_groups` meets its contract.
+use Prim.Native.Nat.{ℕ}
+use mathlib.Core.Option.{Option}
+use mathlib.Core.Path.{_≡_}
 use borrow.Author.Needs.{needs}
-use Rattle.bits.specs.Parsed.{_>>=_, mapP, pure, placed}
+use Rattle.bits.specs.Bits.{isSet}
+use Rattle.bits.specs.Parsed.{Parser, mapParsed, andThen, _>>=_, mapP, pure, optional, Placed, placed}
+use Rattle.bits.specs.Reads.{flag}
 use Rattle.bits.specs.Say.{saidFlag}
 use Rattle.bits.proofs.Laws.{came}
-use Rattle.standard.specs.Updates.{groups}
+use Rattle.standard.specs.Contexts as context
+use Rattle.standard.specs.Tree.{PositionWord, Zone, Size, Groups, given}
+use Rattle.standard.specs.Updates.{bit, screenWord, groups}
+use Rattle.rows.specs.Say.{zoneSaid}
 use Rattle.rows.proofs.Tests.{back}
+use Rattle.update.specs.Say.{asked, ifAsked, positionWordSaid, sizeRead}
 use Rattle.update.proofs.render.read_groups.Statement.{statement}
 use Rattle.update.proofs.render.read_groups.Tie as tie
 
-returns-2 : tie.Need-returns-2
-unfolding groups _>>=_ mapP
-returns-2 c =
-    let p = c .before .before .before .before .before in
-    rw (← (p .before .before .read-position .ensures), p .zone-at .given .1, ← (c .before .before .before .read-zone .ensures), c .before .refusal2 .given .1)
+-- what is read behind the size, and what is said with it
+abbrev behind : ℕ → Option (Placed PositionWord) → Option (Placed Zone) → Option (Placed Size) → Parser Groups
+behind flags p z n =
+    optional (isSet 0 flags) (placed screenWord) >>= λ s.
+    placed (mapP bit (flag context.object-snap-flag)) >>= λ l.
+    pure (record { position = p; zone = z; size = n; screen = s; lock = l })
 
-returns-3 : tie.Need-returns-3
-unfolding groups _>>=_ mapP
-returns-3 c =
-    let z = c .before .before .before .before .before in
+-- the size was read, or refused
+at-size : (c : tie.After-read-size) →
+    let z = c .before .before in
     let p = z .before .before .before .before in
-    rw (
-      ← (p .before .before .read-position .ensures),
-      p .zone-at .given .1,
-      ← (z .before .before .read-zone .ensures),
-      z .size-at .given .1,
-      ← (c .before .before .before .read-size .ensures),
-      c .before .refusal3 .given .1,
-    )
-
-returns-4 : tie.Need-returns-4
+    let a = p .before .before .before .before .args in
+    let position = asked (isSet 3 (a .flags)) (a .at .0) (positionWordSaid (p .zone-at .given .0 .1 .0) (p .zone-at .given .0 .1 .1 .0)) in
+    let zone = asked (isSet 2 (a .flags)) (p .zone-at .given .0 .0 .0) (zoneSaid (z .size-at .given .0 .1 .0)) in
+    mapP given (groups (a .first) (a .flags)) (a .payload .now) (a .limit .0) (a .at .0)
+    ≡ mapParsed given (andThen (ifAsked (isSet 1 (a .flags)) (z .size-at .given .0 .0 .0) (sizeRead (c .read-size .result))) (λ n. behind (a .flags) position zone n (a .payload .now) (a .limit .0)))
 unfolding groups _>>=_ mapP
-returns-4 c =
-    let n = c .before .before .before .before .before in
-    let z = n .before .before .before .before in
+at-size c =
+    let z = c .before .before in
     let p = z .before .before .before .before in
-    rw (
-      ← (p .before .before .read-position .ensures),
-      p .zone-at .given .1,
-      ← (z .before .before .read-zone .ensures),
-      z .size-at .given .1,
-      ← (n .before .before .read-size .ensures),
-      n .screen-at .given .1,
-      ← (c .before .before .before .read-screen .ensures),
-      c .before .refusal4 .given .1,
-    )
+    rw (← (p .before .before .read-position .ensures), p .zone-at .given .1, ← (z .before .before .read-zone .ensures), z .size-at .given .1, c .read-size .ensures)
 
 returns-5 : tie.Need-returns-5
-unfolding groups _>>=_ mapP placed
+unfolding _>>=_ mapP placed
 returns-5 c =
     let s = c .before .before .before .before .before in
     let n = s .before .before .before .before in
-    let z = n .before .before .before .before in
-    let p = z .before .before .before .before in
     rw (
-      ← (p .before .before .read-position .ensures),
-      p .zone-at .given .1,
-      ← (z .before .before .read-zone .ensures),
-      z .size-at .given .1,
-      ← (n .before .before .read-size .ensures),
+      at-size (n .before .before),
       n .screen-at .given .1,
       ← (s .before .before .read-screen .ensures),
       s .screen .given .1,
@@ -65,19 +53,13 @@ returns-5 c =
     )
 
 returns-6 : tie.Need-returns-6
-unfolding groups _>>=_ mapP pure placed
+unfolding _>>=_ mapP pure placed
 returns-6 c =
     let l = c .before .before .before in
     let s = l .before .before .before .before in
     let n = s .before .before .before .before in
-    let z = n .before .before .before .before in
-    let p = z .before .before .before .before in
     rw (
-      ← (p .before .before .read-position .ensures),
-      p .zone-at .given .1,
-      ← (z .before .before .read-zone .ensures),
-      z .size-at .given .1,
-      ← (n .before .before .read-size .ensures),
+      at-size (n .before .before),
       n .screen-at .given .1,
       ← (s .before .before .read-screen .ensures),
       s .screen .given .1,
@@ -97,5 +79,8 @@ read-groups-spec =
     (λ c. search needs) (λ c κs. search needs) (λ c. search needs) (λ c. search needs) (λ c κs. search needs)
     (λ c. search needs) (λ c. search needs) (λ c κs. search needs) (λ c. search needs) (λ c. search needs)
     (λ c κs. search needs) (λ c κs. search needs)
-    (λ c. rw (← (c .before .before .before .read-position .ensures), c .before .refusal .given .1)) returns-2
-    returns-3 returns-4 returns-5 returns-6)
+    (λ c. rw (← (c .before .before .before .read-position .ensures), c .before .refusal .given .1))
+    (λ c. let p = c .before .before .before .before .before in rw (← (p .before .before .read-position .ensures), p .zone-at .given .1, ← (c .before .before .before .read-zone .ensures), c .before .refusal2 .given .1))
+    (λ c. rw (at-size (c .before .before .before), c .before .refusal3 .given .1))
+    (λ c. let n = c .before .before .before .before .before in rw (at-size (n .before .before), n .screen-at .given .1, ← (c .before .before .before .read-screen .ensures), c .before .refusal4 .given .1))
+    returns-5 returns-6)

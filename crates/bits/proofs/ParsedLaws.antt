@@ -1,9 +1,8 @@
 -- Laws of Parsed, for proofs that one pass does what two do.
 use Prim.Native.Nat.{ℕ}
 use mathlib.Core.Path.{_≡_, refl, ap}
-use mathlib.Core.List.{List}
 use native.Mathlib.Omega.{arith}
-use Rattle.bits.specs.Parsed.{Refusal, Parsed, got, refused, Parser, andThen, mapParsed, insteadOf}
+use Rattle.bits.specs.Parsed.{Refusal, Parsed, got, refused, andThen, mapParsed, insteadOf}
 use Rattle.bits.proofs.Always.{Ok}
 
 pub then-got : {A B : Type 0} (x : Parsed A) (f g : A → ℕ → Parsed B) → ((a : A) (q : ℕ) → f a q ≡ g a q) → andThen x f ≡ andThen x g

@@ -1,12 +1,11 @@
 -- `update::read_update` meets its contract.
-use mathlib.Core.Bool.{cond}
 use mathlib.Core.Path.{_≡_}
 use borrow.Author.Needs.{needs}
 use mir.Facts.{toZ-ofZ}
 use Rattle.bits.specs.Parsed.{andThen, _>>=_, _>>_, pure, here}
 use Rattle.bits.specs.Say.{saidFlag, saidPassed}
 use Rattle.bits.proofs.Laws.{came}
-use Rattle.standard.specs.Updates.{tableData, activeUpdate, update}
+use Rattle.standard.specs.Updates.{tableData, update}
 use Rattle.rows.specs.Kinds.{kindOf}
 use Rattle.update.specs.Say.{updateRead}
 use Rattle.update.proofs.read_update.Statement.{statement}

@@ -9,7 +9,7 @@ use Rattle.bits.specs.Bits.{isSet}
 use Rattle.bits.specs.Parsed.{andThen, mapParsed, _>>=_, mapP, pure, optional, placed}
 use Rattle.bits.specs.Reads.{read}
 use Rattle.bits.specs.Say.{said, saidFlag}
-use Rattle.bits.proofs.Laws.{came, gives, read-lt}
+use Rattle.bits.proofs.Laws.{gives, read-lt}
 use Rattle.standard.specs.Contexts as context
 use Rattle.standard.specs.Numbers.{priorityLimit}
 use Rattle.standard.specs.Updates.{priorityWord}

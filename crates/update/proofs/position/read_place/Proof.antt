@@ -1,5 +1,4 @@
 -- `update::position::read_place` meets its contract.
-use mathlib.Core.Bool.{cond}
 use borrow.Author.Needs.{needs}
 use Rattle.update.proofs.position.read_place.Statement.{statement}
 use Rattle.update.proofs.position.read_place.Tie as tie

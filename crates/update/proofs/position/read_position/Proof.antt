@@ -5,7 +5,7 @@ use Rattle.bits.specs.Bits.{isSet}
 use Rattle.bits.specs.Parsed.{andThen, _>>=_, _>>_, mapP, pure, optional, placed}
 use Rattle.bits.specs.Say.{saidFlag, saidPassed}
 use Rattle.bits.proofs.Laws.{came}
-use Rattle.standard.specs.Updates.{differential, absolutely, distance, positionWord}
+use Rattle.standard.specs.Updates.{distance, positionWord}
 use Rattle.update.specs.Say.{ifAsked, positionRead}
 use Rattle.update.proofs.AskedWords.{when-asked}
 use Rattle.update.proofs.Numbers.{unset, set}

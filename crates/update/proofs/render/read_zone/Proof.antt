@@ -5,12 +5,9 @@ use borrow.Author.Tests.{le-leb, lt-leb}
 use borrow.Author.Needs.{needs}
 use lib.IntN.{pos}
 use Rattle.bits.specs.Bits.{isSet}
-use Rattle.bits.specs.Parsed.{mapParsed, andThen, _>>=_, _>>_, pure, refuse, optional, here, require, placed, invalid}
-use Rattle.bits.specs.Reads.{flag}
+use Rattle.bits.specs.Parsed.{andThen, _>>=_, _>>_, pure, refuse, optional, here, require, placed}
 use Rattle.bits.specs.Say.{said, saidFlag}
 use Rattle.bits.proofs.Laws.{came}
-use Rattle.standard.specs.Contexts as context
-use Rattle.standard.specs.Numbers.{zoneLimit}
 use Rattle.standard.specs.Updates.{bit, zoneWord}
 use Rattle.rows.proofs.Tests.{back}
 use Rattle.update.specs.Say.{ifAsked}

@@ -36,7 +36,7 @@ extern "C" {
 /* ---- Sizes ----------------------------------------------------------------------------------- */
 
 enum {
-    CEPOKARAN_ROW_WIDTH = 15,         /* numbers in a row */
+    CEPOKARAN_ROW_WIDTH = 16,         /* numbers in a row */
     CEPOKARAN_OBJECT_LIMIT = 128,     /* objects in a frame, at most */
     CEPOKARAN_BLOCK_LIMIT = 8,        /* blocks in a frame, at most */
     CEPOKARAN_FRAME_LENGTH = 1536,    /* samples in a frame */
@@ -74,17 +74,23 @@ enum {
     CEPOKARAN_LOCK = 11,     /* 0 or 1: the object-snap flag */
     CEPOKARAN_ZONE = 12,     /* 0 to 5: the zone-constraints index */
     CEPOKARAN_ELEVATION = 13,/* 0 or 1: the elevation-enabled flag */
-    CEPOKARAN_MARK = 14      /* 1 settled, 0 unsettled: see oamd_decode */
+    CEPOKARAN_DISTANCE = 14, /* 0 not specified; 1 to 16; or CEPOKARAN_INFINITY: see below */
+    CEPOKARAN_MARK = 15      /* 1 settled, 0 unsettled: see oamd_decode */
 };
 
 enum cepokaran_kind {
     CEPOKARAN_LFE = 0,
     CEPOKARAN_BED = 1,
     CEPOKARAN_ISF = 2,
-    CEPOKARAN_DYNAMIC = 3 /* the only kind whose picture (x to elevation) is not the default */
+    CEPOKARAN_DYNAMIC = 3 /* the only kind whose picture (x to distance) is not the default */
 };
 
 enum { CEPOKARAN_SILENCE = -128 }; /* the gain of minus infinity */
+
+/* How far an object stands. 0: the payload does not say. 1 to 16: the index of its distance factor, plus one.
+ * Every position that is read sets it, a step too; while an object is inactive it stays. It is a number of the
+ * row itself, and oamd_shown has no float of it. */
+enum { CEPOKARAN_INFINITY = 17 }; /* the distance of a storm or a crowd: infinitely far */
 
 /* ---- Numbers given back ---------------------------------------------------------------------- */
 
@@ -111,7 +117,8 @@ enum cepokaran_number {
 
 /* Number 0 is the object count, number 1 the doubt (1 after a gap notice or a reset), and then come the
  * rows of the last block that was accepted. A table that was started or reset, and is written by these
- * calls alone, is in form for ever; it may be stored, copied and compared as it is.
+ * calls alone, is in form for ever; it may be stored, copied and compared as it is. Only a table that was
+ * stored when rows had no distance cannot be used: begin with oamd_reset.
  *
  * Which of the three calls, and when:
  *
@@ -179,7 +186,7 @@ enum {
  *
  * A row's mark says what to believe after payloads were missed and a gap notice or a reset was given for
  * them. What is settled is what a decoder would hold that missed nothing. In a block row the mark stands
- * for x to elevation; kind, active, gain and priority are such anyway. In a start row it stands for all
+ * for x to distance; kind, active, gain and priority are such anyway. In a start row it stands for all
  * but the kind. A block row is settled once a payload tells the whole of its picture. Without a gap notice
  * or a reset since the last start, or since a table of zeros, every row is settled.
  *
@@ -274,7 +281,8 @@ enum {
 /*
  * What is shown of row `index` of a table of rows, each float by one f32 division; an Lfe always
  * stands at (-1, 1, -1). `silent` is 1 where the gain is silence, else 0: read it before the
- * decibels. The mark is not among the floats: it is number CEPOKARAN_MARK of the row.
+ * decibels. Neither the distance nor the mark is among the floats: they are numbers CEPOKARAN_DISTANCE
+ * and CEPOKARAN_MARK of the row.
  * Refused in this order: INDEX, FORM, as oamd_row. Then all floats are +0, and silent is 1.
  */
 uint32_t oamd_shown(const int16_t *table, size_t table_len, uint32_t index,

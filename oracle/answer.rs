@@ -1,6 +1,7 @@
 //! One payload after another through the Rust decoder, answered in the specification's numbers.
 
 use crate::call::Call;
+use crate::distances::{Distances, FrameDistances};
 use crate::notes::{noted, Note};
 use crate::oamd::{OamdDecoder, OamdFrame, OamdParseError};
 use crate::orders::{self, Order};
@@ -33,11 +34,14 @@ pub struct Frame {
     pub start: Vec<Row>,
     /// The row of block b, object o stands at b x objects + o.
     pub blocks: Vec<Row>,
+    /// What the payload orders, object by object, block by block.
+    pub orders: Vec<Order>,
 }
 
 #[derive(Default)]
 pub struct Oracle {
     decoder: OamdDecoder,
+    pub distances: Distances,
 }
 
 impl Oracle {
@@ -50,44 +54,60 @@ impl Oracle {
                 missing: 0,
             });
         }
-        self.decoder
-            .decode(payload)
-            .map(|frame| numbers(&frame))
-            .map_err(|error| refusal(&error, payload))
+        match self.decoder.decode(payload) {
+            Ok(frame) => Ok(self.numbers(&frame, payload)),
+            Err(error) => Err(refusal(&error, payload)),
+        }
+    }
+
+    fn numbers(&mut self, frame: &OamdFrame, payload: &[u8]) -> Frame {
+        let kinds: Vec<i16> = frame.kinds.iter().map(|&kind| kind_number(kind)).collect();
+        let orders = orders_of(payload);
+        let distances = self.distances.accept(&kinds, frame.updates.len(), &orders);
+        Frame {
+            timings: frame
+                .updates
+                .iter()
+                .map(|update| [update.timing.start_sample, update.timing.ramp_duration])
+                .collect(),
+            start: rows(&frame.kinds, &frame.starting_objects, &distances.start),
+            blocks: block_rows(frame, &distances),
+            kinds,
+            orders,
+        }
     }
 
     /// The Rust has no doubt, so a gap is nothing to it.
     pub fn call(&mut self, call: Call) {
         if call != Call::Gap {
             self.decoder.reset();
+            self.distances.forget();
         }
     }
 
     pub fn retained(&self) -> Vec<Row> {
-        rows(&self.decoder.kinds, &self.decoder.objects)
+        rows(
+            &self.decoder.kinds,
+            &self.decoder.objects,
+            &self.distances.held,
+        )
     }
 
     /// Retains rows in form, whatever was decoded before.
     pub fn plant(&mut self, rows: &[Row]) {
         (self.decoder.kinds, self.decoder.objects) = rows.iter().map(kind_and_state).unzip();
+        self.distances.plant(rows);
     }
 }
 
-fn numbers(frame: &OamdFrame) -> Frame {
-    Frame {
-        kinds: frame.kinds.iter().map(|&kind| kind_number(kind)).collect(),
-        timings: frame
-            .updates
-            .iter()
-            .map(|update| [update.timing.start_sample, update.timing.ramp_duration])
-            .collect(),
-        start: rows(&frame.kinds, &frame.starting_objects),
-        blocks: frame
-            .updates
-            .iter()
-            .flat_map(|update| rows(&frame.kinds, &update.objects))
-            .collect(),
-    }
+fn block_rows(frame: &OamdFrame, distances: &FrameDistances) -> Vec<Row> {
+    let by_block = distances.blocks.chunks(frame.kinds.len());
+    frame
+        .updates
+        .iter()
+        .zip(by_block)
+        .flat_map(|(update, distances)| rows(&frame.kinds, &update.objects, distances))
+        .collect()
 }
 
 fn refusal(error: &OamdParseError, payload: &[u8]) -> Refusal {
@@ -118,7 +138,7 @@ pub fn shown_floats(row: &[i16]) -> ([f32; 7], Option<f32>) {
 }
 
 /// What an accepted payload orders, object by object, block by block.
-pub fn orders_of(payload: &[u8]) -> Vec<Order> {
+fn orders_of(payload: &[u8]) -> Vec<Order> {
     let (notes, error) = noted(payload);
     assert!(error.is_none(), "both copies of the decoder accept alike");
     orders::orders(&notes, payload)

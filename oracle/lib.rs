@@ -16,6 +16,7 @@ pub mod container;
 pub mod container_mistakes;
 pub mod context;
 pub mod covered;
+pub mod distances;
 pub mod form;
 pub mod journal;
 pub mod listener;

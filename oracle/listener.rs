@@ -1,7 +1,8 @@
 //! The Rust decoder with the model of marks beside it: what the specification expects of each call.
 
-use crate::answer::{orders_of, Frame, Oracle, Refusal, Row};
+use crate::answer::{Frame, Oracle, Refusal, Row};
 use crate::call::Call;
+use crate::distances;
 use crate::form::rows_of;
 use crate::marks::{Marks, Mistake};
 use crate::orders::Order;
@@ -67,6 +68,13 @@ impl Listener {
         listener
     }
 
+    /// One whose distances do.
+    pub fn misplaced(mistake: distances::Mistake) -> Self {
+        let mut listener = Listener::default();
+        listener.oracle.distances.mistake = Some(mistake);
+        listener
+    }
+
     pub fn call(&mut self, call: Call) {
         self.oracle.call(call);
         self.marks.call(call);
@@ -93,7 +101,7 @@ impl Listener {
         match self.oracle.decode(payload) {
             Ok(frame) => {
                 let kinds_changed = !before.is_empty() && before != frame.kinds;
-                let expected = self.accept(&frame, orders_of(payload));
+                let expected = self.accept(frame);
                 Expected {
                     kinds_changed,
                     ..expected
@@ -109,9 +117,9 @@ impl Listener {
         }
     }
 
-    fn accept(&mut self, frame: &Frame, orders: Vec<Order>) -> Expected {
+    fn accept(&mut self, frame: Frame) -> Expected {
         let blocks = frame.timings.len();
-        let marks = self.marks.accept(&frame.kinds, blocks, &orders);
+        let marks = self.marks.accept(&frame.kinds, blocks, &frame.orders);
         let last = &marks.blocks[marks.blocks.len() - frame.kinds.len()..];
         Expected {
             said: Said {
@@ -123,7 +131,7 @@ impl Listener {
             timings: frame.timings.as_flattened().to_vec(),
             start: marked(&frame.start, &marks.start),
             blocks: marked(&frame.blocks, &marks.blocks),
-            orders,
+            orders: frame.orders,
             kinds_changed: false,
         }
     }

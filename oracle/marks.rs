@@ -1,7 +1,7 @@
 //! The specification's "Marks and doubt" as a small model: the Rust decoder has no marks.
 
 use crate::call::Call;
-use crate::orders::{Order, Position};
+use crate::orders::{followed, Order, Position};
 use crate::tables::DYNAMIC;
 
 /// A wrong reading of the specification, for the test that a comparison with this model can fail.
@@ -77,15 +77,12 @@ impl Marks {
     /// The orders stand object by object, block by block.
     pub fn accept(&mut self, kinds: &[i16], blocks: usize, orders: &[Order]) -> FrameMarks {
         let objects = kinds.len();
-        assert_eq!(orders.len(), objects * blocks, "an order for each row");
         let start = self.start(kinds);
-        let mut rows = vec![true; objects * blocks];
-        for (object, ordered) in orders.chunks(blocks).enumerate() {
-            let marks = self.object_marks(kinds[object], start[object], ordered);
-            for (block, mark) in marks.into_iter().enumerate() {
-                rows[block * objects + object] = mark;
-            }
-        }
+        let begin: Vec<(bool, u32)> = start.iter().map(|&mark| (mark, 0)).collect();
+        let rows = followed(&begin, blocks, orders, |object, before, order| {
+            self.after(kinds[object], before, order)
+        });
+        let rows: Vec<bool> = rows.into_iter().map(|(mark, _)| mark).collect();
         let first = self.has(Mistake::FirstBlockIsKept);
         let kept = if first { 0 } else { objects * (blocks - 1) };
         self.marks = rows[kept..kept + objects].to_vec();
@@ -109,33 +106,19 @@ impl Marks {
         }
     }
 
-    /// The marks of one object from block to block.
-    fn object_marks(&self, kind: i16, start: bool, orders: &[Order]) -> Vec<bool> {
+    /// The mark of an object in a block, with the groups that are counted, after those of the block before.
+    fn after(&self, kind: i16, (mark, before): (bool, u32), order: &Order) -> (bool, u32) {
         if kind != DYNAMIC {
-            return vec![start || !self.has(Mistake::FixedKeepTheStartMark); orders.len()];
+            return (mark || !self.has(Mistake::FixedKeepTheStartMark), 0);
         }
-        let mut mark = start;
-        let mut groups = 0;
-        let mut marks = Vec::new();
-        for order in orders {
-            groups = self.groups_of(order)
-                | if self.has(Mistake::GroupsAddUp) {
-                    groups
-                } else {
-                    0
-                };
-            let enough = if self.has(Mistake::ThreeGroupsSettle) {
-                3
-            } else {
-                4
-            };
-            let reset =
-                order.render_status == Some(0) && !self.has(Mistake::StatusZeroSettlesNothing);
-            let lost = !order.active && self.has(Mistake::InactiveUnsettles);
-            mark = reset || u32::count_ones(groups) >= enough || (mark && !lost);
-            marks.push(mark);
-        }
-        marks
+        let added = self.has(Mistake::GroupsAddUp);
+        let groups = self.groups_of(order) | if added { before } else { 0 };
+        let three = self.has(Mistake::ThreeGroupsSettle);
+        let enough = if three { 3 } else { 4 };
+        let reset = order.render_status == Some(0) && !self.has(Mistake::StatusZeroSettlesNothing);
+        let lost = !order.active && self.has(Mistake::InactiveUnsettles);
+        let settled = reset || u32::count_ones(groups) >= enough;
+        (settled || (mark && !lost), groups)
     }
 
     /// A bit for each group that is read anew; a differential position is none.

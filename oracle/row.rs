@@ -1,4 +1,4 @@
-//! Rows of whole numbers, from the decoder's floats.
+//! Rows of whole numbers, from the decoder's floats and the distances beside it.
 
 use crate::oamd::{OamdObjectKind, OamdObjectState};
 use crate::tables::{ACTIVE, DEPTH, ELEVATION, GAIN, HEIGHT, KIND, LOCK, MARK, PRIORITY, SCREEN};
@@ -28,16 +28,20 @@ pub fn kind_number(kind: OamdObjectKind) -> i16 {
     }
 }
 
-pub fn rows(kinds: &[OamdObjectKind], states: &[OamdObjectState]) -> Vec<Row> {
+pub fn rows(
+    kinds: &[OamdObjectKind],
+    states: &[OamdObjectState],
+    distances: &[i16],
+) -> Vec<Row> {
     assert_eq!(kinds.len(), states.len(), "one state for each kind");
-    kinds
-        .iter()
-        .zip(states)
-        .map(|(&kind, state)| row(kind, state))
+    assert_eq!(kinds.len(), distances.len(), "and one distance");
+    let known = kinds.iter().zip(states).zip(distances);
+    known
+        .map(|((&kind, state), &distance)| row(kind, state, distance))
         .collect()
 }
 
-fn row(kind: OamdObjectKind, state: &OamdObjectState) -> Row {
+fn row(kind: OamdObjectKind, state: &OamdObjectState, distance: i16) -> Row {
     assert_eq!(
         state.position,
         shown_position(kind, state.raw_position),
@@ -60,10 +64,11 @@ fn row(kind: OamdObjectKind, state: &OamdObjectState) -> Row {
         i16::from(state.channel_lock),
         i16::from(state.zone_constraints),
         i16::from(state.elevation_enabled),
+        distance,
     ]
 }
 
-/// The kind and the state that a row in form says.
+/// The kind and the state that a row in form says; the state has no distance.
 pub fn kind_and_state(row: &Row) -> (OamdObjectKind, OamdObjectState) {
     let kind = KINDS[row[KIND] as usize];
     let raw_position = [row[X], row[Y], row[Z]];

@@ -1,6 +1,6 @@
 //! The lent tables: a row's columns and ranges, and the specification's lengths, which follow from the row's width.
 
-pub const ROW_WIDTH: usize = 15;
+pub const ROW_WIDTH: usize = 16;
 pub const MOST_OBJECTS: usize = 128;
 pub const MOST_BLOCKS: usize = 8;
 
@@ -32,6 +32,7 @@ pub const SCREEN: usize = 10;
 pub const LOCK: usize = 11;
 pub const ZONE: usize = 12;
 pub const ELEVATION: usize = 13;
+pub const DISTANCE: usize = 14;
 pub const MARK: usize = ROW_WIDTH - 1;
 
 /// The names of a row's numbers.
@@ -50,6 +51,7 @@ pub const COLUMNS: [&str; ROW_WIDTH] = [
     "lock",
     "zone",
     "elevation",
+    "distance",
     "mark",
 ];
 
@@ -64,6 +66,9 @@ pub const HEIGHT_LIMIT: i16 = 15;
 pub const SIZE_LIMIT: i16 = 31;
 pub const ZONE_LIMIT: i16 = 5;
 pub const PRIORITY_LIMIT: i16 = 32;
+
+/// The distance of an object at infinity, and the largest.
+pub const INFINITY: i16 = 17;
 
 /// The smallest and the largest number of each column.
 pub const RANGES: [(i16, i16); ROW_WIDTH] = [
@@ -81,9 +86,10 @@ pub const RANGES: [(i16, i16); ROW_WIDTH] = [
     (0, 1),
     (0, ZONE_LIMIT),
     (0, 1),
+    (0, INFINITY),
     (0, 1),
 ];
 
 /// The default picture.
 pub const MIDDLE: i16 = 31;
-pub const DEFAULT_PICTURE: [i16; MARK - X] = [MIDDLE, MIDDLE, 0, 0, 0, 0, 0, 0, 0, 1];
+pub const DEFAULT_PICTURE: [i16; MARK - X] = [MIDDLE, MIDDLE, 0, 0, 0, 0, 0, 0, 0, 1, 0];

@@ -29,7 +29,7 @@
  *   0 10 010101 1         bell: active; gain word 21, so 14 - 21 dB; default priority
  *   111110 111110 1 1111  x 62, y 62, z +15
  *   0 000 1 00 0 0 0      as the narrator's
- *   000000                padding
+ *   0                     padding
  *
  * The other payloads begin in the same way.
  */
@@ -46,9 +46,10 @@ static const uint8_t walk[] = {0x05, 0x84, 0x7C, 0x08, 0x0B, 0x0C, 0x48, 0x2F, 0
 static const uint8_t rejoin[] = {0x05, 0x84, 0x6C, 0x08, 0x02, 0x1D, 0x22, 0x41,
                                  0xA0, 0xA8, 0x04, 0x0A, 0x46, 0x57, 0x00};
 
-/* 1 block, at 32 with a ramp of 1,536, which ends behind the frame. The bell is told at (10, 40, 5). */
-static const uint8_t late[] = {0x05, 0x84, 0x68, 0x00, 0x34, 0x43, 0x41,
-                               0x90, 0x08, 0x12, 0xB2, 0xA8, 0xA8, 0x40};
+/* 1 block, at 32 with a ramp of 1,536, which ends behind the frame. The bell is told at (10, 40, 5), infinitely
+ * far: its distance is 11 and not 0, and the element has a byte more. */
+static const uint8_t late[] = {0x05, 0x84, 0x6C, 0x00, 0x34, 0x43, 0x41, 0x90,
+                               0x08, 0x12, 0xB2, 0xA8, 0xAE, 0x20, 0x00};
 
 /* 2 blocks, at 0 and at 512, without ramps. The bell as in `rejoin`. */
 static const uint8_t after[] = {0x05, 0x84, 0x68, 0x08, 0x02, 0x04, 0x48,
@@ -104,7 +105,7 @@ static void print_ramps(uint32_t block_count)
     }
 }
 
-/* The floats of a row, and whether they are sure. The mark is a number of the row itself. */
+/* The floats of a row, its distance, and whether all that is sure. Distance and mark are numbers of the row. */
 static void print_row(const char *name, const int16_t *table, size_t length, uint32_t index)
 {
     float values[CEPOKARAN_SHOWN_LENGTH] = {0};
@@ -119,6 +120,10 @@ static void print_row(const char *name, const int16_t *table, size_t length, uin
         printf("silent");
     else
         printf("%.1f dB", values[CEPOKARAN_SHOWN_DECIBELS]);
+    if (row[CEPOKARAN_DISTANCE] == CEPOKARAN_INFINITY)
+        printf(", infinitely far");
+    else if (row[CEPOKARAN_DISTANCE] > 0)
+        printf(", distance factor %d", row[CEPOKARAN_DISTANCE] - 1);
     printf("%s\n", row[CEPOKARAN_MARK] ? "" : ", UNSETTLED");
 }
 

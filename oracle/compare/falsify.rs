@@ -1,10 +1,11 @@
 //! Shows that the comparison can fail: wrong numbers, one of each sort, a wrong decoder of longer payloads,
-//! wrong models of the marks, and wrong readers of containers.
+//! wrong models of the marks and of the distances, and wrong readers of containers.
 
 use crate::appended::Fault;
 use crate::heard_all::{Breach, Wrong, BREACHES};
 use crate::run::Run;
 use crate::spoil::{spoils, Spoil};
+use oracle::distances;
 use oracle::listener::Listener;
 use oracle::marks::{Mistake, MISTAKES};
 
@@ -31,6 +32,10 @@ pub fn falsify(seed: u64) -> bool {
         .iter()
         .map(|mistake| wrong_model(seed, *mistake))
         .collect();
+    let misplaced: Vec<bool> = distances::MISTAKES
+        .iter()
+        .map(|mistake| finds_a_difference(Run::new(seed, Listener::misplaced(*mistake))))
+        .collect();
     let breaches: Vec<bool> = BREACHES
         .iter()
         .map(|breach| breached(seed, *breach))
@@ -45,7 +50,8 @@ pub fn falsify(seed: u64) -> bool {
         )
         & report("faults of longer payloads", &faults, &longer)
         & report("events that break the demand", &BREACHES, &breaches)
-        & report("wrong models", &MISTAKES, &models)
+        & report("wrong models of marks", &MISTAKES, &models)
+        & report("wrong models of distances", &distances::MISTAKES, &misplaced)
 }
 
 #[cfg(not(views))]

@@ -6,11 +6,13 @@ use oracle::answer::TRUNCATED;
 use oracle::context;
 use oracle::listener::{Expected, Said};
 use oracle::orders::{Order, Position};
-use oracle::tables::{MARK, ROW_WIDTH};
+use oracle::tables::{INFINITY, MARK, ROW_WIDTH};
 use std::collections::{BTreeMap, BTreeSet};
 
 /// The least share of accepted payloads, in percent.
 const LEAST_ACCEPTED: u64 = 40;
+
+const DISTANCES: usize = INFINITY as usize + 1;
 
 #[derive(Default)]
 pub struct Tally {
@@ -23,8 +25,9 @@ pub struct Tally {
     gain_codes: [u64; 4],
     basic_statuses: [u64; 4],
     render_statuses: [u64; 4],
-    absolute: u64,
-    differential: u64,
+    /// Positions by their distance.
+    absolute: [u64; DISTANCES],
+    differential: [u64; DISTANCES],
     start_rows: u64,
     block_rows: u64,
     unsettled_start_rows: u64,
@@ -71,11 +74,13 @@ impl Tally {
         add(&mut self.gain_codes, order.gain_code);
         add(&mut self.basic_statuses, order.basic_status);
         add(&mut self.render_statuses, order.render_status);
-        match order.position {
-            Some(Position::Absolute) => self.absolute += 1,
-            Some(Position::Differential) => self.differential += 1,
-            None => {}
-        }
+        let counts = match order.position {
+            Some(Position::Absolute) => &mut self.absolute,
+            Some(Position::Differential) => &mut self.differential,
+            None => return,
+        };
+        let distance = order.distance.expect("a distance follows each position");
+        counts[distance.number() as usize] += 1;
     }
 
     fn print_refusals(&self) {
@@ -111,7 +116,13 @@ impl Tally {
         );
         println!(
             "positions: absolute {}, differential {}",
-            self.absolute, self.differential
+            self.absolute.iter().sum::<u64>(),
+            self.differential.iter().sum::<u64>()
+        );
+        println!("distances 0 to {INFINITY}, absolute: {:?}", self.absolute);
+        println!(
+            "distances 0 to {INFINITY}, differential: {:?}",
+            self.differential
         );
         println!(
             "start rows {}, unsettled {}; block rows {}, unsettled {}; frames that end unsettled {}",
@@ -143,6 +154,10 @@ impl Tally {
             .collect();
         if !unseen.is_empty() {
             complaints.push(format!("refusals never seen (number, context): {unseen:?}"));
+        }
+        let distances = self.absolute.iter().chain(&self.differential);
+        if distances.copied().any(|times| times == 0) {
+            complaints.push("a distance never seen, absolute or differential".to_string());
         }
         let unseen = self.seen.unseen().into_iter();
         complaints.extend(unseen.map(|name| format!("never seen: {name}")));

@@ -44,6 +44,16 @@ start-at st ks o h = go (sameKinds ks (st .rows)) refl
     go true e = let n = same-length ks (st .rows) e in map-at (heldRow (st .doubt)) (st .rows) o noRow noRow (omega arith)
     go false e = map-at (defaultRow (st .doubt)) ks o lfe noRow h
 
+-- without doubt a row that is held stands as it was
+held-stand : (d : ℤ) → is 0 d ≡ true → (rs : List Row) → map (heldRow d) rs ≡ rs
+unfolding heldRow
+held-stand d h [] = refl
+held-stand d h (r ∷ rs) = rw (h, held-stand d h rs)
+
+pub starts-stand : (st : State) (ks : List Kind) → sameKinds ks (st .rows) ≡ true → is 0 (st .doubt) ≡ true → startRows st ks ≡ st .rows
+unfolding startRows
+starts-stand st ks same calm = rw same (held-stand (st .doubt) calm (st .rows))
+
 -- What a loop keeps that writes the rows rs one a turn: so far o of them
 
 pub record Writing (rs : List Row) (l₀ : List ℤ) (o : ℕ) (l : List ℤ) : Type 0 where

@@ -25,6 +25,7 @@ use rows::retained::count_of;
 use rows::row::Row;
 use rows::row::default_picture;
 use rows::row::kind_of;
+use rows::table::copy;
 use rows::table::kind_at;
 use rows::table::put_row;
 use rows::table::row_at;
@@ -34,6 +35,18 @@ pub fn write_starts(retained: &[i16], kinds: &[i16], start: &mut [i16])
     ensures { λ _. ⌜ now (start .exit) ≡ over (rowsNumbers (startRows (stateOf (now (retained .entry))) (map kindOf (now (kinds .entry))))) (now (start .entry)) ⌝ }
 {
     let held = same_kinds(retained, kinds);
+    // Rows that are held without doubt are the start rows as they stand.
+    if held & (retained[DOUBT] == 0) {
+        copy(retained, RETAINED_HEAD, start, 0, kinds.len() * ROW_WIDTH);
+        return;
+    }
+    write_each(retained, kinds, start, held);
+}
+
+fn write_each(retained: &[i16], kinds: &[i16], start: &mut [i16], held: bool)
+    requires { ⌜ Held (now retained) × ((length (now kinds) ≤ objectLimit) × ((startLength ≤ length (now start)) × (held ≡ sameKinds (map kindOf (now kinds)) (stateOf (now retained) .rows)))) ⌝ }
+    ensures { λ _. ⌜ now (start .exit) ≡ over (rowsNumbers (startRows (stateOf (now (retained .entry))) (map kindOf (now (kinds .entry))))) (now (start .entry)) ⌝ }
+{
     for object in 0..kinds.len() {
         let row = start_row(retained, object, kinds[object], held);
         put_row(start, object * ROW_WIDTH, row);

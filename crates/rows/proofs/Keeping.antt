@@ -1,19 +1,19 @@
 -- Laws of the retained table: read as a state, and written anew as a state's numbers over its head.
 use Prim.Native.Nat.{ℕ, suc, _+_, _-_, _*_, _≤_, _<_}
-use mathlib.Core.Path.{_≡_, refl, sym, _∙_, ap}
+use mathlib.Core.Path.{_≡_, refl, _∙_, ap}
 use mathlib.Core.Bool.{true, and-eq-true-iff}
-use mathlib.Core.List.{List, [], _∷_, _++_, append-assoc}
+use mathlib.Core.List.{List, [], _∷_, _++_}
 use native.Mathlib.Omega.{arith}
 use lib.IntN.{ℤ, pos}
-use lib.ListN.{length, getD, take, drop, set, replicate, length-append, length-drop, length-replicate, replicate-append-replicate}
-use lib.Seq.{sets, length-take-le, drop-at}
+use lib.ListN.{length, getD, take, drop, set, replicate, length-append, length-drop, length-replicate}
+use lib.Seq.{sets, length-take-le}
 use Rattle.standard.specs.Numbers.{rowWidth, objectLimit, retainedHead, retainedLength, startLength}
 use Rattle.standard.specs.Rows.{noRow}
 use Rattle.standard.specs.Tables.{rowsOf, countOf, stateOf, stateNumbers, inForm}
 use Rattle.standard.specs.Calls.{over}
 use Rattle.rows.specs.Places.{written, rowAt}
 use Rattle.rows.specs.Retained.{Countable, Keepable}
-use Rattle.rows.proofs.Written.{written-over}
+use Rattle.rows.proofs.Written.{written-after, written-over}
 use Rattle.rows.proofs.Rows.{getD-rowsOf, length-rowsOf, numbers-rows}
 
 -- Read
@@ -38,44 +38,29 @@ written-behind : (a b : ℤ) (l vs : List ℤ) → written (a ∷ b ∷ l) retai
 unfolding written retainedHead
 written-behind a b l vs = sets-behind vs (b ∷ l) 1 a ∙ ap (λ (m : List ℤ). a ∷ m) (sets-behind vs l 0 b)
 
--- numbers over the first of m zeros
-over-zeros : (m : ℕ) (vs l : List ℤ) → length vs ≤ m → over vs (replicate m (pos 0) ++ l) ≡ vs ++ replicate (m - length vs) (pos 0) ++ l
-over-zeros m vs l h =
-    let k = length vs in
-    let e : k + (m - k) ≡ m = omega arith in
-    let split : replicate k (pos 0) ++ replicate (m - k) (pos 0) ≡ replicate m (pos 0) = rw e at (replicate-append-replicate k (m - k) (pos 0)) in
-    rw (
-      ← split,
-      append-assoc (replicate k (pos 0)) (replicate (m - k) (pos 0)) l,
-      drop-at (replicate k (pos 0)) (replicate (m - k) (pos 0) ++ l) k (length-replicate k (pos 0)),
-    )
-    (sym (append-assoc vs (replicate (m - k) (pos 0)) l))
-
-retained-size : retainedLength ≡ suc (suc startLength)
-unfolding retainedLength startLength
-retained-size = refl
+-- the head is written after what lies behind it, and might have been before
+head-after : (l vs : List ℤ) (a b : ℤ) → 2 ≤ length l → set (set (written l retainedHead vs) 0 a) 1 b ≡ written (set (set l 0 a) 1 b) retainedHead vs
+head-after [] vs a b h = absurd (omega arith)
+head-after (x ∷ []) vs a b h = absurd (omega arith)
+head-after (x ∷ y ∷ l) vs a b h = rw (written-behind x y l vs, written-behind a b l vs)
 
 -- the zeros behind n rows
 zeros-left : (n : ℕ) → n ≤ objectLimit → startLength - n * rowWidth ≡ rowWidth * (objectLimit - n)
 unfolding startLength rowWidth objectLimit
 zeros-left n h = omega arith
 
-rows-fit : (n : ℕ) → n ≤ objectLimit → n * rowWidth ≤ startLength
-unfolding startLength rowWidth objectLimit
-rows-fit n h = omega arith
-
--- the numbers of n rows behind a new head and before zeros
-state-over : (n : ℕ) (vs l : List ℤ) → n ≤ objectLimit → length vs ≡ n * rowWidth
-    → set (written (over (replicate retainedLength (pos 0)) l) retainedHead vs) 0 (pos n)
+-- the numbers of n rows, a new head, and zeros behind them
+state-over : (n : ℕ) (vs l : List ℤ) → n ≤ objectLimit → length vs ≡ n * rowWidth → retainedLength ≤ length l
+    → written (set (set (written l retainedHead vs) 0 (pos n)) 1 (pos 0)) (retainedHead + n * rowWidth) (replicate (startLength - n * rowWidth) (pos 0))
     ≡ over (pos n ∷ pos 0 ∷ vs ++ replicate (rowWidth * (objectLimit - n)) (pos 0)) l
-state-over n vs l few e =
-    let zeros : List ℤ = replicate startLength (pos 0) in
-    let rest : List ℤ = drop (suc (suc (length zeros))) l in
-    let fit = rows-fit n few in
-    let long : length vs ≤ length (zeros ++ rest) = simp (length-append, length-replicate) (omega arith) in
-    let left : startLength - length vs ≡ rowWidth * (objectLimit - n) = rw e (zeros-left n few) in
-    let all : length zeros ≡ length (vs ++ replicate (rowWidth * (objectLimit - n)) (pos 0)) = simp (length-append, length-replicate) (omega arith) in
-    rw (retained-size, written-behind (pos 0) (pos 0) (zeros ++ rest) vs, written-over (zeros ++ rest) vs long, over-zeros startLength vs rest (omega arith), left, all)
+unfolding written retainedHead retainedLength startLength rowWidth objectLimit
+state-over n vs l few e long =
+    let head : List ℤ = pos n ∷ pos 0 ∷ [] in
+    let zeros : List ℤ = replicate (rowWidth * (objectLimit - n)) (pos 0) in
+    let at : 0 + length (head ++ vs) ≡ retainedHead + n * rowWidth = omega arith in
+    let fits : length ((head ++ vs) ++ zeros) ≤ length l = simp (length-append, length-replicate) (omega arith) in
+    rw (head-after l vs (pos n) (pos 0) (omega arith), zeros-left n few, written-after l 0 head vs, ← at, written-after l 0 (head ++ vs) zeros)
+    (written-over l ((head ++ vs) ++ zeros) fits)
 
 state-numbers : (n : ℕ) (l : List ℤ) → n * rowWidth ≤ length l
     → stateNumbers (record { doubt = pos 0; rows = rowsOf n l }) ≡ pos n ∷ pos 0 ∷ take (n * rowWidth) l ++ replicate (rowWidth * (objectLimit - n)) (pos 0)
@@ -83,9 +68,9 @@ unfolding stateNumbers
 state-numbers n l h = rw (length-rowsOf n l, numbers-rows n l h)
 
 pub kept : {l b : List ℤ} {first n : ℕ} → Keepable l b first n
-    → set (written (over (replicate retainedLength (pos 0)) l) retainedHead (take (n * rowWidth) (drop first b))) 0 (pos n)
+    → written (set (set (written l retainedHead (take (n * rowWidth) (drop first b))) 0 (pos n)) 1 (pos 0)) (retainedHead + n * rowWidth) (replicate (startLength - n * rowWidth) (pos 0))
     ≡ over (stateNumbers (record { doubt = pos 0; rows = rowsOf n (drop first b) })) l
 kept {l} {b} {first} {n} k =
     let there : n * rowWidth ≤ length (drop first b) = simp length-drop (omega arith) in
     rw (state-numbers n (drop first b) there)
-    (state-over n (take (n * rowWidth) (drop first b)) l (k .few) (length-take-le (n * rowWidth) (drop first b) there))
+    (state-over n (take (n * rowWidth) (drop first b)) l (k .few) (length-take-le (n * rowWidth) (drop first b) there) (k .room))

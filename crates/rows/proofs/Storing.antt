@@ -28,10 +28,17 @@ module _ {A : Type 0} where
   turn {l₀} {l} {at} {n} {i} {vs} w e f h s =
       record { within = omega arith; long = simp length-set (s .long); same = rw (s .same, f, ← e) (written-after l₀ at vs (w ∷ [])) }
 
-  -- the same number once more
+  -- the same number once more, from any place, and from the head
+  pub fill-on : {l₀ l : List A} {at n i : ℕ} (v : A) → i < n → Storing l₀ at (replicate i v) n i l → Storing l₀ at (replicate (i + 1) v) n (i + 1) (set l (at + i) v)
+  fill-on {i = i} v h s = turn v (length-replicate i v) (sym (replicate-append-replicate i 1 v)) h s
+
   pub fill-turn : {l₀ l : List A} {n i : ℕ} (v : A) → i < n → Storing l₀ 0 (replicate i v) n i l → Storing l₀ 0 (replicate (i + 1) v) n (i + 1) (set l i v)
-  fill-turn {i = i} v h s =
-      rw zero-add at (turn v (length-replicate i v) (sym (replicate-append-replicate i 1 v)) h s)
+  fill-turn v h s = rw zero-add at (fill-on v h s)
+
+  pub filled-on : {l₀ l : List A} {at n i : ℕ} (v : A) → n ≤ i → Storing l₀ at (replicate i v) n i l → l ≡ written l₀ at (replicate n v)
+  filled-on {n = n} {i} v h s =
+      let e : i ≡ n = omega (arith, s .within) in
+      rw (← e) (s .same)
 
   pub filled : {l₀ l : List A} {n i : ℕ} (v : A) → n ≤ i → n ≤ length l₀ → Storing l₀ 0 (replicate i v) n i l → l ≡ over (replicate n v) l₀
   filled {l₀} {n = n} {i} v h room s =

@@ -1,14 +1,18 @@
 -- What the code's rows say: the paper's records.
+use lib.IntN.{ℤ}
 use Rattle.standard.specs.Tree as tree
 use Rattle.standard.specs.Rows as rows
-use Rattle.rows.specs.declared.row.Position.{Position}
+use Rattle.rows.specs.declared.row.Point.{Point}
 use Rattle.rows.specs.declared.row.Zone.{Zone}
 use Rattle.rows.specs.declared.row.Size.{Size}
 use Rattle.rows.specs.declared.row.Picture.{Picture}
 use Rattle.rows.specs.declared.row.Row.{Row}
 
-abbrev pub positionSaid : Position → tree.Position
-positionSaid p = record { x = p .x; y = p .y; z = p .z }
+abbrev pub pointSaid : Point → tree.Point
+pointSaid p = record { x = p .x; y = p .y; z = p .z }
+
+abbrev pub positionSaid : Point → ℤ → tree.Position
+positionSaid p d = record { point = pointSaid p; distance = d }
 
 abbrev pub zoneSaid : Zone → tree.Zone
 zoneSaid z = record { zone = z .zone; elevation = z .elevation }
@@ -19,7 +23,7 @@ sizeSaid s = record { width = s .width; depth = s .depth; height = s .height }
 abbrev pub pictureSaid : Picture → rows.Picture
 pictureSaid p =
     record {
-      position = positionSaid (p .position);
+      position = positionSaid (p .point) (p .distance);
       zone = zoneSaid (p .zone);
       size = sizeSaid (p .size);
       screen = p .screen;

@@ -1,14 +1,15 @@
-// The form of a row and of the retained table. A row's tests are all computed, with no branch, and named as in the definitions.
+// The form of a row and of the retained table. A row's tests are computed with hardly a branch, and named as in the definitions.
 ghost use mathlib.Core.Path.{_≡_};
 ghost use Prim.Native.Nat.{_+_, _*_, _≤_};
 ghost use lib.ListN.{length, drop};
 ghost use Rattle.standard.specs.Numbers.{rowWidth, retainedHead, retainedLength};
-ghost use Rattle.standard.specs.Tables.{between, isFlag, gainForm, positionForm, zoneForm, sizeForm, pictureForm, samePosition, sameZone, sameSize, samePicture, isDefault, activeForm, fixedForm, shownForm, rowForm, rowsOf, allForm, inForm};
-ghost use Rattle.rows.specs.Say.{positionSaid, zoneSaid, sizeSaid, pictureSaid, rowSaid};
+ghost use Rattle.standard.specs.Tables.{between, isFlag, gainForm, pointForm, positionForm, zoneForm, sizeForm, pictureForm, samePoint, samePosition, sameZone, sameSize, samePicture, isDefault, activeForm, fixedForm, shownForm, rowForm, rowsOf, allForm, inForm};
+ghost use Rattle.rows.specs.Say.{pointSaid, positionSaid, zoneSaid, sizeSaid, pictureSaid, rowSaid};
 use crate::numbers::COUNT;
 use crate::numbers::DOUBT;
 use crate::numbers::HEIGHT_LIMIT;
 use crate::numbers::HIGHEST_GAIN;
+use crate::numbers::INFINITY;
 use crate::numbers::LOWEST_GAIN;
 use crate::numbers::OBJECT_LIMIT;
 use crate::numbers::PRIORITY_LIMIT;
@@ -22,7 +23,7 @@ use crate::numbers::ZONE_LIMIT;
 use crate::retained::count_of;
 use crate::row::DYNAMIC;
 use crate::row::Picture;
-use crate::row::Position;
+use crate::row::Point;
 use crate::row::Row;
 use crate::row::Size;
 use crate::row::Zone;
@@ -51,13 +52,21 @@ fn gain_form(v: i16) -> bool
     silent | heard
 }
 
-fn position_form(p: Position) -> bool
-    ensures { λ r. ⌜ r ≡ positionForm (positionSaid p) ⌝ }
+fn point_form(p: Point) -> bool
+    ensures { λ r. ⌜ r ≡ pointForm (pointSaid p) ⌝ }
 {
     let x = within(0, SIDE_LIMIT, p.x);
     let y = within(0, SIDE_LIMIT, p.y);
     let z = within(-HEIGHT_LIMIT, HEIGHT_LIMIT, p.z);
     x & y & z
+}
+
+fn position_form(p: Point, d: i16) -> bool
+    ensures { λ r. ⌜ r ≡ positionForm (positionSaid p d) ⌝ }
+{
+    let point = point_form(p);
+    let distance = within(0, INFINITY, d);
+    point & distance
 }
 
 fn zone_form(z: Zone) -> bool
@@ -80,7 +89,7 @@ fn size_form(s: Size) -> bool
 fn picture_form(p: Picture) -> bool
     ensures { λ r. ⌜ r ≡ pictureForm (pictureSaid p) ⌝ }
 {
-    let position = position_form(p.position);
+    let position = position_form(p.point, p.distance);
     let zone = zone_form(p.zone);
     let size = size_form(p.size);
     let screen = is_flag(p.screen);
@@ -88,10 +97,17 @@ fn picture_form(p: Picture) -> bool
     position & zone & size & screen & lock
 }
 
-fn same_position(p: Position, q: Position) -> bool
-    ensures { λ r. ⌜ r ≡ samePosition (positionSaid p) (positionSaid q) ⌝ }
+fn same_point(p: Point, q: Point) -> bool
+    ensures { λ r. ⌜ r ≡ samePoint (pointSaid p) (pointSaid q) ⌝ }
 {
     (p.x == q.x) & (p.y == q.y) & (p.z == q.z)
+}
+
+fn same_position(p: Picture, q: Picture) -> bool
+    ensures { λ r. ⌜ r ≡ samePosition (positionSaid (p .point) (p .distance)) (positionSaid (q .point) (q .distance)) ⌝ }
+{
+    let point = same_point(p.point, q.point);
+    point & (p.distance == q.distance)
 }
 
 fn same_zone(p: Zone, q: Zone) -> bool
@@ -109,7 +125,7 @@ fn same_size(p: Size, q: Size) -> bool
 fn same_picture(p: Picture, q: Picture) -> bool
     ensures { λ r. ⌜ r ≡ samePicture (pictureSaid p) (pictureSaid q) ⌝ }
 {
-    let position = same_position(p.position, q.position);
+    let position = same_position(p, q);
     let zone = same_zone(p.zone, q.zone);
     let size = same_size(p.size, q.size);
     position & zone & size & (p.screen == q.screen) & (p.lock == q.lock)
@@ -128,13 +144,14 @@ fn active_form(row: Row) -> bool
     (row.active == 1) | ((row.gain == SILENCE) & (row.priority == 0))
 }
 
-// A fixed kind has the default picture.
+// A fixed kind has the default picture. Most rows are Dynamic, and theirs is not looked at.
 fn fixed_form(row: Row) -> bool
     ensures { λ r. ⌜ r ≡ fixedForm (rowSaid row) ⌝ }
 {
-    let dynamic = row.kind == DYNAMIC;
-    let default = is_default(row.picture);
-    dynamic | default
+    if row.kind == DYNAMIC {
+        return true;
+    }
+    is_default(row.picture)
 }
 
 // A row to be shown: a fixed kind has either mark.

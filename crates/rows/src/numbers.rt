@@ -1,5 +1,5 @@
 // Every size, column and range of what is lent, and the numbers given back here, each named once.
-pub const ROW_WIDTH: usize = 15;
+pub const ROW_WIDTH: usize = 16;
 
 pub const OBJECT_LIMIT: usize = 128;
 
@@ -49,7 +49,9 @@ pub const ZONE: usize = 12;
 
 pub const ELEVATION: usize = 13;
 
-pub const MARK: usize = 14;
+pub const DISTANCE: usize = 14;
+
+pub const MARK: usize = 15;
 
 // How far each number of a row goes: x and y from 0, z to either side, sizes, zone and priority from 0.
 pub const SIDE_LIMIT: i16 = 62;
@@ -59,6 +61,9 @@ pub const HEIGHT_LIMIT: i16 = 15;
 pub const SIZE_LIMIT: i16 = 31;
 
 pub const ZONE_LIMIT: i16 = 5;
+
+// The distance of an object at infinity, and the largest.
+pub const INFINITY: i16 = 17;
 
 pub const PRIORITY_LIMIT: i16 = 32;
 

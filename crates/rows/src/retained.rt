@@ -6,10 +6,11 @@ ghost use Rattle.standard.specs.Tables.{rowsOf, stateNumbers};
 ghost use Rattle.standard.specs.Calls.{over};
 ghost use Rattle.rows.specs.Retained.{Countable, Counted, Keepable};
 use crate::numbers::COUNT;
+use crate::numbers::DOUBT;
 use crate::numbers::RETAINED_HEAD;
-use crate::numbers::RETAINED_LENGTH;
 use crate::numbers::ROW_WIDTH;
-use crate::table::clear;
+use crate::numbers::START_LENGTH;
+use crate::table::clear_from;
 use crate::table::copy;
 
 // A count that is known to be in form.
@@ -26,8 +27,10 @@ pub fn keep_rows(retained: &mut [i16], blocks: &[i16], from: usize, count: usize
     requires { ⌜ Keepable (now retained) (now blocks) from count ⌝ }
     ensures { λ _. ⌜ now (retained .exit) ≡ over (stateNumbers (record { doubt = pos 0; rows = rowsOf count (drop from (now (blocks .entry))) })) (now (retained .entry)) ⌝ }
 {
-    clear(retained, RETAINED_LENGTH);
-    copy(blocks, from, retained, RETAINED_HEAD, count * ROW_WIDTH);
+    let rows = count * ROW_WIDTH;
+    copy(blocks, from, retained, RETAINED_HEAD, rows);
     let number = count as i16;
     retained[COUNT] = number;
+    retained[DOUBT] = 0;
+    clear_from(retained, RETAINED_HEAD + rows, START_LENGTH - rows);
 }

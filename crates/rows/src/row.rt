@@ -6,9 +6,10 @@ ghost use Rattle.standard.specs.Tree.{isDynamic, kindNumber};
 ghost use Rattle.standard.specs.Rows.{defaultPicture};
 ghost use Rattle.standard.specs.Tables.{rowNumbers, rowOf};
 ghost use Rattle.rows.specs.Kinds.{kindOf};
-ghost use Rattle.rows.specs.Say.{positionSaid, zoneSaid, sizeSaid, pictureSaid, rowSaid};
+ghost use Rattle.rows.specs.Say.{pointSaid, zoneSaid, sizeSaid, pictureSaid, rowSaid};
 use crate::numbers::ACTIVE;
 use crate::numbers::DEPTH;
+use crate::numbers::DISTANCE;
 use crate::numbers::ELEVATION;
 use crate::numbers::GAIN;
 use crate::numbers::HEIGHT;
@@ -49,7 +50,7 @@ pub fn kind_of(number: i16) -> i16
     if is_dynamic(number) { DYNAMIC } else { number }
 }
 
-pub struct Position {
+pub struct Point {
     pub x: i16,
     pub y: i16,
     pub z: i16,
@@ -66,8 +67,10 @@ pub struct Size {
     pub height: i16,
 }
 
+// Point and distance are the paper's position. As one struct they would be moved as eight bytes, and taken apart again.
 pub struct Picture {
-    pub position: Position,
+    pub point: Point,
+    pub distance: i16,
     pub zone: Zone,
     pub size: Size,
     pub screen: i16,
@@ -87,11 +90,12 @@ pub fn default_picture() -> Picture
     ensures { λ r. ⌜ pictureSaid r ≡ defaultPicture ⌝ }
 {
     Picture {
-        position: Position {
+        point: Point {
             x: MIDDLE,
             y: MIDDLE,
             z: 0,
         },
+        distance: 0,
         zone: Zone {
             zone: 0,
             elevation: 1,
@@ -106,11 +110,11 @@ pub fn default_picture() -> Picture
     }
 }
 
-fn position_of(part: &[i16]) -> Position
+fn point_of(part: &[i16]) -> Point
     requires { ⌜ length (now part) ≡ rowWidth ⌝ }
-    ensures { λ r. ⌜ positionSaid r ≡ rowOf (now (part .entry)) .picture .position ⌝ }
+    ensures { λ r. ⌜ pointSaid r ≡ rowOf (now (part .entry)) .picture .position .point ⌝ }
 {
-    Position {
+    Point {
         x: part[X],
         y: part[Y],
         z: part[Z],
@@ -143,7 +147,8 @@ fn picture_of(part: &[i16]) -> Picture
     ensures { λ r. ⌜ pictureSaid r ≡ rowOf (now (part .entry)) .picture ⌝ }
 {
     Picture {
-        position: position_of(part),
+        point: point_of(part),
+        distance: part[DISTANCE],
         zone: zone_of(part),
         size: size_of(part),
         screen: part[SCREEN],
@@ -175,9 +180,9 @@ pub fn row_numbers(row: Row) -> [i16; ROW_WIDTH]
         row.active,
         row.gain,
         row.priority,
-        row.picture.position.x,
-        row.picture.position.y,
-        row.picture.position.z,
+        row.picture.point.x,
+        row.picture.point.y,
+        row.picture.point.z,
         row.picture.size.width,
         row.picture.size.depth,
         row.picture.size.height,
@@ -185,6 +190,7 @@ pub fn row_numbers(row: Row) -> [i16; ROW_WIDTH]
         row.picture.lock,
         row.picture.zone.zone,
         row.picture.zone.elevation,
+        row.picture.distance,
         row.mark,
     ]
 }

@@ -76,6 +76,16 @@ pub fn clear(table: &mut [i16], n: usize)
     }
 }
 
+// The `n` numbers that begin at `at` become 0.
+pub fn clear_from(table: &mut [i16], at: usize, n: usize)
+    requires { ⌜ at + n ≤ length (now table) ⌝ }
+    ensures { λ _. ⌜ now (table .exit) ≡ written (now (table .entry)) at (replicate n (pos 0)) ⌝ }
+{
+    for i in 0..n {
+        table[at + i] = 0;
+    }
+}
+
 pub fn clear_timings(timings: &mut [u16], n: usize)
     requires { ⌜ n ≤ length (now timings) ⌝ }
     ensures { λ _. ⌜ now (timings .exit) ≡ over (replicate n 0) (now (timings .entry)) ⌝ }

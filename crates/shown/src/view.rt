@@ -51,11 +51,11 @@ fn place_of(row: Row) -> Place
             z: -1.0,
         };
     }
-    let position = row.picture.position;
+    let point = row.picture.point;
     Place {
-        x: position.x as f32 / SIDE_LIMIT as f32,
-        y: position.y as f32 / SIDE_LIMIT as f32,
-        z: position.z as f32 / HEIGHT_LIMIT as f32,
+        x: point.x as f32 / SIDE_LIMIT as f32,
+        y: point.y as f32 / SIDE_LIMIT as f32,
+        z: point.z as f32 / HEIGHT_LIMIT as f32,
     }
 }
 

@@ -7,10 +7,10 @@ use lib.IntN.{ℤ, pos}
 use lib.ListN.{getD, drop}
 use Rattle.bits.specs.Parsed.{Placed}
 use Rattle.bits.proofs.Always.{All}
-use Rattle.standard.specs.Tree.{Kind, isDynamic, Position, GainWord, PositionWord, absolute, moved, Render, default, kept, given, Update, inactive, active, Object}
+use Rattle.standard.specs.Tree.{Kind, isDynamic, Point, Position, GainWord, PointWord, absolute, moved, PositionWord, Render, default, kept, given, Update, inactive, active, Object}
 use Rattle.standard.specs.Rows.{Row, Picture, Group, itsPosition, itsZone, itsSize, itsScreen, itsLock, part, noRow}
 use Rattle.standard.specs.Marks.{isSome, isAbsolute, absolutelySaid, settled, marked, settles, newMark, rowMark}
-use Rattle.standard.specs.Meaning.{orBefore, newGain, positionSaid, newPosition, newPicture, rowPicture, updated, objectRows, allRows, gainOf}
+use Rattle.standard.specs.Meaning.{orBefore, newGain, pointSaid, newPosition, newPicture, rowPicture, updated, objectRows, allRows, gainOf}
 use Rattle.standard.proofs.Small.{and-left, and-right, Pairs}
 use Rattle.standard.proofs.MarkLaws.{mark-sound}
 use Rattle.standard.proofs.FirstUpdates.{firstForm, FirstIn, ObjectForm}
@@ -21,15 +21,15 @@ said-forgets : {A : Type 0} (o : Option (Placed A)) (a b : A) → isSome o ≡ t
 said-forgets none a b h = cc
 said-forgets (some w) a b h = refl
 
-absolute-forgets : (w : PositionWord) (p q : Position) → isAbsolute w ≡ true → positionSaid w p ≡ positionSaid w q
-unfolding positionSaid
+absolute-forgets : (w : PointWord) (p q : Point) → isAbsolute w ≡ true → pointSaid w p ≡ pointSaid w q
+unfolding pointSaid
 absolute-forgets (absolute r) p q h = refl
 absolute-forgets (moved d) p q h = cc
 
 position-forgets : (o : Option (Placed PositionWord)) (p q : Position) → absolutelySaid o ≡ true → newPosition o p ≡ newPosition o q
 unfolding newPosition
 position-forgets none p q h = cc
-position-forgets (some w) p q h = absolute-forgets (w .word) p q h
+position-forgets (some w) p q h = rw (absolute-forgets (w .word .point) (p .point) (q .point) h)
 
 settled-new : (g : Group) (r : Render) (p q : Picture) → settles g r ≡ true → part g (newPicture r p) ≡ part g (newPicture r q)
 unfolding settles newPicture

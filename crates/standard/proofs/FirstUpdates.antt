@@ -29,9 +29,9 @@ basic-first : (at : ℕ) → Always (λ b. (isSome (b .gain) && isSome (b .prior
 unfolding basic parts levels isSet
 basic-first at = from-pure _ _ (from-some _ _ λ g. from-some _ _ λ n. given _ refl)
 
-position-first : Always (λ w. isAbsolute w ≡ true) (positionWord true)
+position-first : Always (λ w. isAbsolute (w .point) ≡ true) (positionWord true)
 unfolding positionWord absolutely
-position-first = from-pure _ _ (bind _ (after _ _ λ x. after _ _ λ y. after _ _ λ up. after _ _ λ z. given _ refl) λ w h. next _ (given _ h))
+position-first = from-pure _ _ (bind _ (after _ _ λ x. after _ _ λ y. after _ _ λ up. after _ _ λ z. given _ refl) λ w h. after _ _ λ n. given _ h)
 
 -- every group is said, and the position in full
 groups-first : Always (λ w. settlesAll (Render.given w) ≡ true) (groups true 15)

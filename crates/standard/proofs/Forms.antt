@@ -8,15 +8,15 @@ use lib.IntN.{ℤ, pos, negℤ}
 use lib.Signed.{leZ, ltZ, ltZ-no, ≤ℤ-refl}
 use Rattle.bits.specs.Parsed.{Placed}
 use Rattle.bits.proofs.Always.{All}
-use Rattle.standard.specs.Tree.{Kind, lfe, bed, isf, dynamic, kindCode, kindNumber, isDynamic, Position, GainWord, level, copied, PositionWord, absolute, moved, Render, default, kept, given, Update, inactive, active}
+use Rattle.standard.specs.Tree.{Kind, lfe, bed, isf, dynamic, kindCode, kindNumber, isDynamic, Point, Position, GainWord, level, copied, PointWord, absolute, moved, PositionWord, Render, default, kept, given, Update, inactive, active}
 use Rattle.standard.specs.Numbers.{sideLimit, heightLimit, priorityLimit, silence}
 use Rattle.standard.specs.Rows.{Row, Picture, defaultPicture, is, isSilent}
 use Rattle.standard.specs.Marks.{rowMark}
-use Rattle.standard.specs.Meaning.{orBefore, copiedGain, gainSaid, newGain, clamp, stepped, positionSaid, newPosition, newPicture, rowPicture, updated}
-use Rattle.standard.specs.Tables.{every, between, isFlag, isFull, markForm, gainForm, positionForm, positionTests, sizeForm, zoneForm, pictureForm, pictureTests, isDefault, activeForm, fixedForm, shownTests, shownForm, rowForm}
+use Rattle.standard.specs.Meaning.{orBefore, copiedGain, gainSaid, newGain, clamp, stepped, pointSaid, newPosition, newPicture, rowPicture, updated}
+use Rattle.standard.specs.Tables.{every, between, isFlag, isFull, markForm, gainForm, pointForm, pointTests, positionForm, sizeForm, zoneForm, pictureForm, pictureTests, isDefault, activeForm, fixedForm, shownTests, shownForm, rowForm}
 use Rattle.standard.proofs.Small.{and-left, and-right, both}
 use Rattle.standard.proofs.MarkLaws.{row-mark-form}
-use Rattle.standard.proofs.Words.{IfSaid, GainOk, PriorityOk, PositionOk, ZoneOk, SizeOk, FlagOk, RenderOk, UpdateOk}
+use Rattle.standard.proofs.Words.{IfSaid, GainOk, PriorityOk, PointOk, PositionOk, ZoneOk, SizeOk, FlagOk, RenderOk, UpdateOk}
 
 abbrev Yes : Bool → Type 0
 Yes b = b ≡ true
@@ -80,19 +80,19 @@ clamp-form lo hi v h = go (ltZ v lo) refl (ltZ hi v) refl
     go false e true f = both (leZ lo hi) (leZ hi hi) h (self hi)
     go false e false f = both (leZ lo v) (leZ v hi) (no-less v lo e) (no-less hi v f)
 
-position-said : (w : PositionWord) (p : Position) → PositionOk w → positionForm p ≡ true → positionForm (positionSaid w p) ≡ true
-unfolding positionSaid stepped positionForm positionTests
-position-said (absolute q) p h k = h
-position-said (moved d) p h k =
-    passed (positionTests (stepped d p)) (clamp-form (pos 0) (pos sideLimit) _ refl, (clamp-form (pos 0) (pos sideLimit) _ refl, (clamp-form (negℤ (pos heightLimit)) (pos heightLimit) _ refl, tt)))
+point-said : (w : PointWord) (p : Point) → PointOk w → pointForm (pointSaid w p) ≡ true
+unfolding pointSaid stepped pointForm pointTests
+point-said (absolute q) p h = h
+point-said (moved d) p h =
+    passed (pointTests (stepped d p)) (clamp-form (pos 0) (pos sideLimit) _ refl, (clamp-form (pos 0) (pos sideLimit) _ refl, (clamp-form (negℤ (pos heightLimit)) (pos heightLimit) _ refl, tt)))
 
 position-after : (o : Option (Placed PositionWord)) (p : Position) → IfSaid PositionOk o → positionForm p ≡ true → positionForm (newPosition o p) ≡ true
-unfolding newPosition
+unfolding newPosition positionForm
 position-after none p h k = k
-position-after (some w) p h k = position-said (w .word) p h k
+position-after (some w) p h k = both _ _ (point-said (w .word .point) (p .point) (h .point)) (both _ _ (h .distance) refl)
 
 pub default-form : pictureForm defaultPicture ≡ true
-unfolding pictureForm pictureTests defaultPicture positionForm positionTests zoneForm sizeForm
+unfolding pictureForm pictureTests defaultPicture positionForm pointForm pointTests zoneForm sizeForm
 default-form = refl
 
 picture-after : (r : Render) (p : Picture) → RenderOk r → pictureForm p ≡ true → pictureForm (newPicture r p) ≡ true

@@ -7,7 +7,7 @@ use native.Mathlib.Nat.{zero-mul}
 use lib.IntN.{ℤ, pos}
 use lib.ListN.{length, getD, take, drop, replicate, length-append, length-drop, length-replicate, replicate-append-replicate}
 use lib.Seq.{drop-at, drop-append-seam, drop-append-add}
-use Rattle.standard.specs.Numbers.{rowWidth, objectLimit, retainedHead, retainedLength, kindAt, activeAt, gainAt, priorityAt, xAt, yAt, zAt, widthAt, depthAt, heightAt, screenAt, lockAt, zoneAt, elevationAt, markAt}
+use Rattle.standard.specs.Numbers.{rowWidth, objectLimit, retainedHead, retainedLength, kindAt, activeAt, gainAt, priorityAt, xAt, yAt, zAt, widthAt, depthAt, heightAt, screenAt, lockAt, zoneAt, elevationAt, distanceAt, markAt}
 use Rattle.standard.specs.Tree.{Timing}
 use Rattle.standard.specs.Rows.{Row, State, noRow}
 use Rattle.standard.specs.Tables.{rowNumbers, rowOf, rowsNumbers, rowsOf, timingNumbers, timingsOf, countOf, stateOf, stateNumbers}
@@ -33,9 +33,9 @@ pub record InColumns (r : Row) (l : List ℤ) : Type 0 where
   pub active : getD l activeAt (pos 0) ≡ r .active
   pub gain : getD l gainAt (pos 0) ≡ r .gain
   pub priority : getD l priorityAt (pos 0) ≡ r .priority
-  pub x : getD l xAt (pos 0) ≡ r .picture .position .x
-  pub y : getD l yAt (pos 0) ≡ r .picture .position .y
-  pub z : getD l zAt (pos 0) ≡ r .picture .position .z
+  pub x : getD l xAt (pos 0) ≡ r .picture .position .point .x
+  pub y : getD l yAt (pos 0) ≡ r .picture .position .point .y
+  pub z : getD l zAt (pos 0) ≡ r .picture .position .point .z
   pub width : getD l widthAt (pos 0) ≡ r .picture .size .width
   pub depth : getD l depthAt (pos 0) ≡ r .picture .size .depth
   pub height : getD l heightAt (pos 0) ≡ r .picture .size .height
@@ -43,6 +43,7 @@ pub record InColumns (r : Row) (l : List ℤ) : Type 0 where
   pub lock : getD l lockAt (pos 0) ≡ r .picture .lock
   pub zone : getD l zoneAt (pos 0) ≡ r .picture .zone .zone
   pub elevation : getD l elevationAt (pos 0) ≡ r .picture .zone .elevation
+  pub distance : getD l distanceAt (pos 0) ≡ r .picture .position .distance
   pub mark : getD l markAt (pos 0) ≡ r .mark
   pub all : length l ≡ rowWidth
 
@@ -64,6 +65,7 @@ columns r =
       lock = refl;
       zone = refl;
       elevation = refl;
+      distance = refl;
       mark = refl;
       all = refl;
     }

@@ -1,5 +1,5 @@
 -- Every word that the syntax gives is in the form that a row asks for.
-use Prim.Native.Nat.{ℕ, zero, suc, _-_, _≤_, _<_, min}
+use Prim.Native.Nat.{ℕ, zero, suc, _+_, _-_, _≤_, _<_, min}
 use mathlib.Core.Path.{_≡_, refl, _∙_, ap}
 use mathlib.Core.Bool.{Bool, true, false, cond, _&&_}
 use mathlib.Core.List.{List}
@@ -13,11 +13,11 @@ use Rattle.bits.specs.Bits.{isSet}
 use Rattle.bits.specs.Parsed.{Placed}
 use Rattle.bits.proofs.Always.{Ok, All, Always, IfSome, OfWord, bind, after, next, mapped, mapped-such, choose, given, none-given, repeated, required, if-some, at-place}
 use Rattle.bits.proofs.Fields.{read-lt}
-use Rattle.standard.specs.Numbers.{sideLimit, heightLimit, sizeLimit, priorityLimit}
-use Rattle.standard.specs.Tree.{Kind, isDynamic, Zone, Size, GainWord, level, copied, PositionWord, absolute, moved, Basic, Groups, Render, default, kept, Update, inactive, active, Object}
-use Rattle.standard.specs.Updates.{decibels, gainBy, gainWord, priorityWord, levels, parts, basic, differential, absolutely, positionWord, bit, zoneWord, sized, threeSizes, sizeBy, sizeWord, screenWord, groups, render, renderOf, activeUpdate, update, object}
+use Rattle.standard.specs.Numbers.{sideLimit, heightLimit, sizeLimit, infinity, priorityLimit}
+use Rattle.standard.specs.Tree.{Kind, isDynamic, Zone, Size, GainWord, level, copied, PointWord, absolute, moved, PositionWord, Basic, Groups, Render, default, kept, Update, inactive, active, Object}
+use Rattle.standard.specs.Updates.{decibels, gainBy, gainWord, priorityWord, levels, parts, basic, differential, absolutely, distance, positionWord, bit, zoneWord, sized, threeSizes, sizeBy, sizeWord, screenWord, groups, render, renderOf, activeUpdate, update, object}
 use Rattle.standard.specs.Meaning.{taken}
-use Rattle.standard.specs.Tables.{between, isFlag, gainForm, positionForm, positionTests, sizeForm, zoneForm}
+use Rattle.standard.specs.Tables.{between, isFlag, upTo, gainForm, pointForm, pointTests, sizeForm, zoneForm}
 use Rattle.standard.proofs.Small.{and-left, and-right, both}
 use Rattle.standard.proofs.Payload.{InTree, in-objects}
 
@@ -82,25 +82,41 @@ basic-ok at status =
 
 -- The groups
 
-abbrev pub PositionOk : PositionWord → Type 0
-PositionOk (absolute p) = positionForm p ≡ true
-PositionOk (moved d) = Unit {0}
+abbrev pub PointOk : PointWord → Type 0
+PointOk (absolute p) = pointForm p ≡ true
+PointOk (moved d) = Unit {0}
+
+abbrev pub DistanceOk : ℤ → Type 0
+DistanceOk n = upTo infinity n ≡ true
+
+pub record PositionOk (w : PositionWord) : Type 0 where
+  pub point : PointOk (w .point)
+  pub distance : DistanceOk (w .distance)
 
 height-form : (positive : Bool) (z : ℕ) → z < 16 → between (negℤ (pos heightLimit)) (pos heightLimit) (cond positive (pos z) (negℤ (pos z))) ≡ true
 height-form true z h = le-leb z heightLimit (omega arith)
 height-form false zero h = refl
 height-form false (suc z) h = both _ _ (le-leb z (heightLimit - 1) (omega arith)) refl
 
-absolute-ok : Always PositionOk absolutely
-unfolding absolutely positionForm positionTests
+absolute-ok : Always PointOk absolutely
+unfolding absolutely pointForm pointTests
 absolute-ok =
     after _ _ λ x. after _ _ λ y. after _ _ λ positive. bind _ (read-lt 4 _) λ z hz.
     given _ (both _ _ (pos-between sideLimit (min x sideLimit) (omega arith)) (both _ _ (pos-between sideLimit (min y sideLimit) (omega arith)) (both _ _ (height-form positive z hz) refl)))
 
+distance-ok : Always DistanceOk distance
+unfolding distance
+distance-ok =
+    after _ _ λ specified.
+    choose specified
+    (after _ _ λ infinite. choose infinite (given _ refl) (mapped-such _ (read-lt 4 _) λ n h. pos-between infinity (n + 1) (omega arith)))
+    (given _ refl)
+
 position-ok : (first : Bool) → Always PositionOk (positionWord first)
 unfolding positionWord differential
 position-ok first =
-    after _ _ λ d. bind _ (choose d (after _ _ λ x. after _ _ λ y. after _ _ λ z. given _ tt) absolute-ok) λ w h. next _ (given _ h)
+    after _ _ λ d. bind _ (choose d (after _ _ λ x. after _ _ λ y. after _ _ λ z. given _ tt) absolute-ok) λ w h.
+    bind _ distance-ok λ n hn. given _ (record { point = h; distance = hn })
 
 bit-flag : (b : Bool) → isFlag (bit b) ≡ true
 unfolding bit

@@ -2,6 +2,7 @@
 pub mod Bench
 pub mod Writer
 pub mod FurtherCases
+pub mod DistanceCases
 pub mod MarkCases
 pub mod PlaceCases
 pub mod ReadingCases

@@ -35,7 +35,7 @@ sameℤ (x ∷ xs) (y ∷ ys) = eqℤ x y && sameℤ xs ys
 abbrev pub plainPicture : ℤ → ℤ → ℤ → Picture
 plainPicture x y z =
     record {
-      position = record { x = x; y = y; z = z };
+      position = record { point = record { x = x; y = y; z = z }; distance = pos 0 };
       zone = record { zone = pos 0; elevation = pos 1 };
       size = record { width = pos 0; depth = pos 0; height = pos 0 };
       screen = pos 0;

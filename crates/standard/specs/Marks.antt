@@ -3,7 +3,7 @@ use mathlib.Core.Bool.{Bool, true, false, cond, _&&_}
 use mathlib.Core.Option.{Option, none, some}
 use lib.IntN.{ℤ, pos}
 use Rattle.bits.specs.Parsed.{Placed}
-use Rattle.standard.specs.Tree.{Kind, isDynamic, PositionWord, absolute, moved, Render, default, kept, given}
+use Rattle.standard.specs.Tree.{Kind, isDynamic, PointWord, absolute, moved, PositionWord, Render, default, kept, given}
 use Rattle.standard.specs.Rows.{Group, itsPosition, itsZone, itsSize, itsScreen, itsLock, is}
 
 -- the marks of a settled and of an unsettled picture
@@ -26,13 +26,13 @@ module _ {A : Type 0} where
   isSome none = false
   isSome (some a) = true
 
-abbrev pub isAbsolute : PositionWord → Bool
+abbrev pub isAbsolute : PointWord → Bool
 isAbsolute (absolute p) = true
 isAbsolute (moved d) = false
 
 abbrev pub absolutelySaid : Option (Placed PositionWord) → Bool
 absolutelySaid none = false
-absolutelySaid (some w) = isAbsolute (w .word)
+absolutelySaid (some w) = isAbsolute (w .word .point)
 
 -- nothing of the group before is left
 unfoldable pub settles : Group → Render → Bool

@@ -9,7 +9,7 @@ use lib.Signed.{ltZ}
 use lib.ListN.{length, getD, drop}
 use Rattle.bits.specs.Parsed.{Parsed, got, refused, Placed}
 use Rattle.standard.specs.Numbers.{sideLimit, heightLimit, priorityLimit, silence, payloadLimit, size, alone}
-use Rattle.standard.specs.Tree.{Kind, kindCode, isDynamic, Position, GainWord, level, copied, PositionWord, absolute, moved, Render, default, kept, given, Update, inactive, active, Object, Tree, kindsOf}
+use Rattle.standard.specs.Tree.{Kind, kindCode, isDynamic, Point, Position, GainWord, level, copied, PointWord, absolute, moved, PositionWord, Render, default, kept, given, Update, inactive, active, Object, Tree, kindsOf}
 use Rattle.standard.specs.Syntax.{syntax}
 use Rattle.standard.specs.Rows.{Picture, Row, State, defaultPicture, noRow, is, isSilent}
 use Rattle.standard.specs.Marks.{settled, doubted, rowMark}
@@ -58,7 +58,7 @@ unfoldable pub clamp : ℤ → ℤ → ℤ → ℤ
 clamp lo hi v = cond (ltZ v lo) lo (cond (ltZ hi v) hi v)
 
 -- a step beyond an end stays there
-unfoldable pub stepped : Position → Position → Position
+unfoldable pub stepped : Point → Point → Point
 stepped d p =
     record {
       x = clamp (pos 0) (pos sideLimit) (p .x +ℤ d .x);
@@ -66,13 +66,14 @@ stepped d p =
       z = clamp (negℤ (pos heightLimit)) (pos heightLimit) (p .z +ℤ d .z);
     }
 
-unfoldable pub positionSaid : PositionWord → Position → Position
-positionSaid (absolute q) p = q
-positionSaid (moved d) p = stepped d p
+unfoldable pub pointSaid : PointWord → Point → Point
+pointSaid (absolute q) p = q
+pointSaid (moved d) p = stepped d p
 
+-- steps move the point alone: the distance is said anew
 unfoldable pub newPosition : Option (Placed PositionWord) → Position → Position
 newPosition none p = p
-newPosition (some w) p = positionSaid (w .word) p
+newPosition (some w) p = record { point = pointSaid (w .word .point) (p .point); distance = w .word .distance }
 
 unfoldable pub newPicture : Render → Picture → Picture
 newPicture (default at) p = defaultPicture
@@ -162,5 +163,5 @@ gapped st = record { doubt = pos 1; rows = st .rows }
 -- What computing opens
 
 unfoldable pub computed : Unit {0}
-unfolding heldRow defaultRow sameKinds startRows copiedGain gainSaid newGain clamp stepped positionSaid newPosition newPicture rowPicture updated objectRows allRows frameRows lastRow lastRows retain unsettledCount taken retainIf decoded gapped
+unfolding heldRow defaultRow sameKinds startRows copiedGain gainSaid newGain clamp stepped pointSaid newPosition newPicture rowPicture updated objectRows allRows frameRows lastRow lastRows retain unsettledCount taken retainIf decoded gapped
 computed = tt

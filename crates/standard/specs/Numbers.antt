@@ -6,7 +6,7 @@ use Rattle.bits.specs.Parsed.{Refusal}
 -- Tables
 
 unfoldable pub rowWidth : ℕ
-rowWidth = 15
+rowWidth = 16
 
 unfoldable pub objectLimit : ℕ
 objectLimit = 128
@@ -84,8 +84,11 @@ zoneAt = 12
 abbrev pub elevationAt : ℕ
 elevationAt = 13
 
+abbrev pub distanceAt : ℕ
+distanceAt = 14
+
 abbrev pub markAt : ℕ
-markAt = 14
+markAt = 15
 
 -- How far each number of a row goes
 
@@ -103,6 +106,10 @@ sizeLimit = 31
 
 abbrev pub zoneLimit : ℕ
 zoneLimit = 5
+
+-- the distance of an object at infinity, and the largest
+abbrev pub infinity : ℕ
+infinity = 17
 
 abbrev pub priorityLimit : ℕ
 priorityLimit = 32

@@ -33,7 +33,7 @@ fresh = record { doubt = pos 0; rows = [] }
 unfoldable pub defaultPicture : Picture
 defaultPicture =
     record {
-      position = record { x = pos middle; y = pos middle; z = pos 0 };
+      position = record { point = record { x = pos middle; y = pos middle; z = pos 0 }; distance = pos 0 };
       zone = record { zone = pos 0; elevation = pos 1 };
       size = record { width = pos 0; depth = pos 0; height = pos 0 };
       screen = pos 0;
@@ -49,7 +49,7 @@ noRow =
       gain = pos 0;
       priority = pos 0;
       picture = record {
-        position = record { x = pos 0; y = pos 0; z = pos 0 };
+        position = record { point = record { x = pos 0; y = pos 0; z = pos 0 }; distance = pos 0 };
         zone = record { zone = pos 0; elevation = pos 0 };
         size = record { width = pos 0; depth = pos 0; height = pos 0 };
         screen = pos 0;

@@ -31,9 +31,9 @@ shown r =
     let p = r .picture in
     let isLfe = is (kindCode lfe) (r .kind) in
     record {
-      x = cond isLfe minusOne (ratio (p .position .x) sideLimit);
-      y = cond isLfe one (ratio (p .position .y) sideLimit);
-      z = cond isLfe minusOne (ratio (p .position .z) heightLimit);
+      x = cond isLfe minusOne (ratio (p .position .point .x) sideLimit);
+      y = cond isLfe one (ratio (p .position .point .y) sideLimit);
+      z = cond isLfe minusOne (ratio (p .position .point .z) heightLimit);
       width = ratio (p .size .width) sizeLimit;
       depth = ratio (p .size .depth) sizeLimit;
       height = ratio (p .size .height) sizeLimit;

@@ -6,19 +6,19 @@ use lib.IntN.{ℤ, pos, negℤ, natAbs}
 use lib.Signed.{leZ}
 use lib.ListN.{length, getD, take, drop, replicate}
 use Rattle.standard.specs.Numbers.{countAt, doubtAt, rowWidth, objectLimit, retainedHead}
-use Rattle.standard.specs.Numbers.{kindAt, activeAt, gainAt, priorityAt, xAt, yAt, zAt, widthAt, depthAt, heightAt, screenAt, lockAt, zoneAt, elevationAt, markAt}
-use Rattle.standard.specs.Numbers.{sideLimit, heightLimit, sizeLimit, zoneLimit, priorityLimit, lowestGain, highestGain}
-use Rattle.standard.specs.Tree.{kindCode, dynamic, Position, Zone, Size, Timing}
+use Rattle.standard.specs.Numbers.{kindAt, activeAt, gainAt, priorityAt, xAt, yAt, zAt, widthAt, depthAt, heightAt, screenAt, lockAt, zoneAt, elevationAt, distanceAt, markAt}
+use Rattle.standard.specs.Numbers.{sideLimit, heightLimit, sizeLimit, zoneLimit, infinity, priorityLimit, lowestGain, highestGain}
+use Rattle.standard.specs.Tree.{kindCode, dynamic, Point, Position, Zone, Size, Timing}
 use Rattle.standard.specs.Rows.{Picture, Row, State, defaultPicture, noRow, eqℤ, is, isSilent}
 
--- kind; active; gain; priority; x; y; z; width, depth, height; screen; lock; zone; elevation; mark
+-- kind; active; gain; priority; x; y; z; width, depth, height; screen; lock; zone; elevation; distance; mark
 unfoldable pub rowNumbers : Row → List ℤ
 rowNumbers r =
     let p = r .picture in
     r .kind ∷ r .active ∷ r .gain ∷ r .priority
-    ∷ p .position .x ∷ p .position .y ∷ p .position .z
+    ∷ p .position .point .x ∷ p .position .point .y ∷ p .position .point .z
     ∷ p .size .width ∷ p .size .depth ∷ p .size .height
-    ∷ p .screen ∷ p .lock ∷ p .zone .zone ∷ p .zone .elevation ∷ r .mark ∷ []
+    ∷ p .screen ∷ p .lock ∷ p .zone .zone ∷ p .zone .elevation ∷ p .position .distance ∷ r .mark ∷ []
 
 unfoldable pub rowOf : List ℤ → Row
 rowOf l =
@@ -29,7 +29,7 @@ rowOf l =
       gain = n gainAt;
       priority = n priorityAt;
       picture = record {
-        position = record { x = n xAt; y = n yAt; z = n zAt };
+        position = record { point = record { x = n xAt; y = n yAt; z = n zAt }; distance = n distanceAt };
         size = record { width = n widthAt; depth = n depthAt; height = n heightAt };
         screen = n screenAt;
         lock = n lockAt;
@@ -96,12 +96,15 @@ isFlag v = upTo 1 v
 unfoldable pub gainForm : ℤ → Bool
 gainForm v = isSilent v || between lowestGain highestGain v
 
-unfoldable pub positionTests : Position → List Bool
-positionTests p =
+unfoldable pub pointTests : Point → List Bool
+pointTests p =
     upTo sideLimit (p .x) ∷ upTo sideLimit (p .y) ∷ between (negℤ (pos heightLimit)) (pos heightLimit) (p .z) ∷ []
 
+unfoldable pub pointForm : Point → Bool
+pointForm p = every (pointTests p)
+
 unfoldable pub positionForm : Position → Bool
-positionForm p = every (positionTests p)
+positionForm p = every (pointForm (p .point) ∷ upTo infinity (p .distance) ∷ [])
 
 unfoldable pub zoneForm : Zone → Bool
 zoneForm z = every (upTo zoneLimit (z .zone) ∷ isFlag (z .elevation) ∷ [])
@@ -121,8 +124,11 @@ markForm m = isFlag m
 
 -- equal in each number
 
+abbrev pub samePoint : Point → Point → Bool
+samePoint p q = every (eqℤ (p .x) (q .x) ∷ eqℤ (p .y) (q .y) ∷ eqℤ (p .z) (q .z) ∷ [])
+
 abbrev pub samePosition : Position → Position → Bool
-samePosition p q = every (eqℤ (p .x) (q .x) ∷ eqℤ (p .y) (q .y) ∷ eqℤ (p .z) (q .z) ∷ [])
+samePosition p q = every (samePoint (p .point) (q .point) ∷ eqℤ (p .distance) (q .distance) ∷ [])
 
 abbrev pub sameZone : Zone → Zone → Bool
 sameZone p q = every (eqℤ (p .zone) (q .zone) ∷ eqℤ (p .elevation) (q .elevation) ∷ [])
@@ -172,5 +178,5 @@ inForm l = upTo objectLimit (getD l countAt (pos 0)) && isFlag (getD l doubtAt (
 -- What computing opens
 
 unfoldable pub computed : Unit {0}
-unfolding rowNumbers rowOf rowsNumbers rowsOf byBlock timingNumbers timingsOf countOf stateOf stateNumbers gainForm positionTests positionForm zoneForm sizeForm pictureTests pictureForm markForm isDefault activeForm fixedForm shownTests shownForm rowForm allForm inForm
+unfolding rowNumbers rowOf rowsNumbers rowsOf byBlock timingNumbers timingsOf countOf stateOf stateNumbers gainForm pointTests pointForm positionForm zoneForm sizeForm pictureTests pictureForm markForm isDefault activeForm fixedForm shownTests shownForm rowForm allForm inForm
 computed = tt

@@ -31,10 +31,14 @@ pub record Timing : Type 0 where
 
 -- Three groups of a picture; its screen and its lock are numbers
 
-pub record Position : Type 0 where
+pub record Point : Type 0 where
   pub x : ℤ
   pub y : ℤ
   pub z : ℤ
+
+pub record Position : Type 0 where
+  pub point : Point
+  pub distance : ℤ
 
 pub record Zone : Type 0 where
   pub zone : ℤ
@@ -51,9 +55,13 @@ pub data GainWord : Type 0 where
   level : ℤ → GainWord  -- in dB, or silence
   copied : GainWord  -- from the object before, in the same block
 
-pub data PositionWord : Type 0 where
-  absolute : Position → PositionWord
-  moved : Position → PositionWord  -- by these steps
+pub data PointWord : Type 0 where
+  absolute : Point → PointWord
+  moved : Point → PointWord  -- by these steps
+
+pub record PositionWord : Type 0 where
+  pub point : PointWord
+  pub distance : ℤ
 
 pub record Basic : Type 0 where
   pub gain : Option (Placed GainWord)

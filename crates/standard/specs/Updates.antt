@@ -1,5 +1,5 @@
 -- The specification, section 7, "Reading order", of objects and blocks: what is said of one object in one block.
-use Prim.Native.Nat.{ℕ, _-_, _^_, min}
+use Prim.Native.Nat.{ℕ, _+_, _-_, _^_, min}
 use mathlib.Core.Bool.{Bool, true, false, cond}
 use mathlib.Core.List.{_∷_}
 use mathlib.Core.Option.{none, some}
@@ -8,8 +8,8 @@ use lib.IntN.{ℤ, pos, negℤ, subℕ}
 use Rattle.bits.specs.Bits.{isSet}
 use Rattle.bits.specs.Parsed.{Parser, _>>=_, _>>_, mapP, pure, refuse, times, optional, here, require, placedAt, placed, invalid}
 use Rattle.bits.specs.Reads.{read, flag, readSigned, skipBytes}
-use Rattle.standard.specs.Numbers.{sideLimit, zoneLimit, priorityLimit, silence}
-use Rattle.standard.specs.Tree.{Kind, isDynamic, Zone, Size, GainWord, level, copied, PositionWord, absolute, moved, Basic, Groups, Render, default, kept, given, Update, inactive, active, Object}
+use Rattle.standard.specs.Numbers.{sideLimit, zoneLimit, infinity, priorityLimit, silence}
+use Rattle.standard.specs.Tree.{Kind, isDynamic, Zone, Size, GainWord, level, copied, PointWord, absolute, moved, PositionWord, Basic, Groups, Render, default, kept, given, Update, inactive, active, Object}
 use Rattle.standard.specs.Contexts as context
 
 -- Basic information
@@ -59,7 +59,7 @@ basic at status =
 -- Render information
 
 -- three steps from -4 to 3
-unfoldable pub differential : Parser PositionWord
+unfoldable pub differential : Parser PointWord
 differential = do
   x ← readSigned 3 context.differential-X
   y ← readSigned 3 context.differential-Y
@@ -67,7 +67,7 @@ differential = do
   pure (moved (record { x = x; y = y; z = z }))
 
 -- 63 is taken for 62; sign 1 is positive
-unfoldable pub absolutely : Parser PositionWord
+unfoldable pub absolutely : Parser PointWord
 absolutely = do
   x ← read 6 context.position-X
   y ← read 6 context.position-Y
@@ -75,23 +75,23 @@ absolutely = do
   z ← read 4 context.position-Z
   pure (absolute (record { x = pos (min x sideLimit); y = pos (min y sideLimit); z = cond positive (pos z) (negℤ (pos z)) }))
 
--- read and dropped
-unfoldable pub distance : Parser (Unit {0})
+-- 0 for none specified, 1 to 16 for a factor index, or infinity
+unfoldable pub distance : Parser ℤ
 distance = do
   specified ← flag context.object-distance-specified-flag
   cond specified
       (do
         infinite ← flag context.object-at-infinity-flag
-        cond infinite (pure tt) (mapP (λ v. tt) (read 4 context.distance-factor-index)))
-      (pure tt)
+        cond infinite (pure (pos infinity)) (mapP (λ index. pos (index + 1)) (read 4 context.distance-factor-index)))
+      (pure (pos 0))
 
--- the first block has no differential flag
+-- the first block has no differential flag; a distance follows in any case
 unfoldable pub positionWord : Bool → Parser PositionWord
 positionWord first = do
   d ← cond first (pure false) (flag context.differential-position-flag)
   w ← cond d differential absolutely
-  distance
-  pure w
+  n ← distance
+  pure (record { point = w; distance = n })
 
 -- a flag's number
 unfoldable pub bit : Bool → ℤ

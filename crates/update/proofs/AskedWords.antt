@@ -9,10 +9,10 @@ use Rattle.bits.specs.Parsed.{Parser, mapP, optional, placedAt, placed}
 use Rattle.bits.proofs.ParsedLaws.{map-map}
 use Rattle.standard.specs.Tree as tree
 use Rattle.standard.specs.Marks.{isSome, absolutelySaid}
-use Rattle.standard.specs.Meaning.{orBefore, gainSaid, newGain, stepped, positionSaid as wordSaid, newPosition}
-use Rattle.rows.specs.declared.row.Position.{Position}
-use Rattle.rows.specs.Say.{positionSaid}
-use Rattle.update.specs.Say.{asked, ifAsked, positionWordSaid}
+use Rattle.standard.specs.Meaning.{orBefore, gainSaid, newGain, stepped, pointSaid as wordSaid, newPosition}
+use Rattle.rows.specs.declared.row.Point.{Point}
+use Rattle.rows.specs.Say.{pointSaid}
+use Rattle.update.specs.Say.{asked, ifAsked, pointWordSaid, positionWordSaid}
 
 -- its reading
 module _ {A : Type 0} (m : Parser A) (s : List ℕ) (e p : ℕ) {b : Bool} where
@@ -36,14 +36,20 @@ new-gain false p g w old = refl
 
 -- a position: as steps, or in full
 
-pub new-position : (b steps : Bool) (p : ℕ) (v : Position) (old : tree.Position)
-    → newPosition (asked b p (positionWordSaid steps v)) old ≡ cond (b && steps) (stepped (positionSaid v) old) (cond b (positionSaid v) old)
-unfolding newPosition wordSaid
-new-position true true p v old = refl
-new-position true false p v old = refl
-new-position false steps p v old = refl
+pub new-point : (b steps : Bool) (v : Point) (old : tree.Point)
+    → cond b (wordSaid (pointWordSaid steps v) old) old ≡ cond (b && steps) (stepped (pointSaid v) old) (cond b (pointSaid v) old)
+unfolding wordSaid
+new-point true true v old = refl
+new-point true false v old = refl
+new-point false steps v old = refl
 
-pub in-full : (b steps : Bool) (p : ℕ) (v : Position) → absolutelySaid (asked b p (positionWordSaid steps v)) ≡ (b && not steps)
-in-full true true p v = refl
-in-full true false p v = refl
-in-full false steps p v = refl
+pub new-position : (b steps : Bool) (p : ℕ) (d : ℤ) (v : Point) (old : tree.Position)
+    → newPosition (asked b p (positionWordSaid d steps v)) old ≡ record { point = cond b (wordSaid (pointWordSaid steps v) (old .point)) (old .point); distance = cond b d (old .distance) }
+unfolding newPosition
+new-position true steps p d v old = refl
+new-position false steps p d v old = refl
+
+pub in-full : (b steps : Bool) (p : ℕ) (d : ℤ) (v : Point) → absolutelySaid (asked b p (positionWordSaid d steps v)) ≡ (b && not steps)
+in-full true true p d v = refl
+in-full true false p d v = refl
+in-full false steps p d v = refl

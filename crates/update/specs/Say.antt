@@ -1,15 +1,14 @@
 -- What the words of the code say, in the paper's terms, and what each answer of the code says.
 use Prim.Native.Nat.{ℕ}
-use mathlib.Core.Bool.{Bool, true, false, cond}
+use mathlib.Core.Bool.{Bool, true, false}
 use mathlib.Core.Option.{Option, none, some}
 use lib.IntN.{ℤ}
 use Rattle.bits.specs.Bits.{isSet}
 use Rattle.bits.specs.Parsed.{Parsed, got, refused, mapParsed, Placed, placedAt}
 use Rattle.bits.specs.Say.{refusal}
-use Rattle.bits.specs.declared.BitPlace.{BitPlace}
 use Rattle.standard.specs.Tree as tree
-use Rattle.rows.specs.declared.row.Position.{Position}
-use Rattle.rows.specs.Say.{positionSaid, zoneSaid, sizeSaid}
+use Rattle.rows.specs.declared.row.Point.{Point}
+use Rattle.rows.specs.Say.{pointSaid, zoneSaid, sizeSaid}
 use Rattle.update.specs.declared.words.Basic.{Basic}
 use Rattle.update.specs.declared.words.Groups.{Groups}
 use Rattle.update.specs.declared.words.Render.{Render}
@@ -20,6 +19,8 @@ use Rattle.update.specs.declared.basic.Gained.{Gained}
 use Rattle.update.specs.declared.basic.Gained.the-variants as gain
 use Rattle.update.specs.declared.basic.BasicRead.{BasicRead}
 use Rattle.update.specs.declared.basic.BasicRead.the-variants as basic
+use Rattle.update.specs.declared.position.Pointed.{Pointed}
+use Rattle.update.specs.declared.position.Pointed.the-variants as point
 use Rattle.update.specs.declared.position.Located.{Located}
 use Rattle.update.specs.declared.position.Located.the-variants as position
 use Rattle.update.specs.declared.render.Zoned.{Zoned}
@@ -47,9 +48,12 @@ abbrev pub gainWordSaid : Bool → ℤ → tree.GainWord
 gainWordSaid true v = tree.copied
 gainWordSaid false v = tree.level v
 
-abbrev pub positionWordSaid : Bool → Position → tree.PositionWord
-positionWordSaid true p = tree.moved (positionSaid p)
-positionWordSaid false p = tree.absolute (positionSaid p)
+abbrev pub pointWordSaid : Bool → Point → tree.PointWord
+pointWordSaid true p = tree.moved (pointSaid p)
+pointWordSaid false p = tree.absolute (pointSaid p)
+
+abbrev pub positionWordSaid : ℤ → Bool → Point → tree.PositionWord
+positionWordSaid d steps p = record { point = pointWordSaid steps p; distance = d }
 
 abbrev pub basicSaid : Basic → tree.Basic
 basicSaid b =
@@ -61,7 +65,7 @@ basicSaid b =
 abbrev pub groupsSaid : Groups → tree.Groups
 groupsSaid w =
     record {
-      position = asked (isSet 3 (w .flags)) (w .«position_at» .0) (positionWordSaid (w .steps) (w .position));
+      position = asked (isSet 3 (w .flags)) (w .«position_at» .0) (positionWordSaid (w .distance) (w .steps) (w .point));
       zone = asked (isSet 2 (w .flags)) (w .«zone_at» .0) (zoneSaid (w .zone));
       size = asked (isSet 1 (w .flags)) (w .«size_at» .0) (sizeSaid (w .size));
       screen = asked (isSet 0 (w .flags)) (w .«screen_at» .0) (w .screen);
@@ -87,8 +91,12 @@ abbrev pub basicRead : BasicRead → Parsed tree.Basic
 basicRead (basic.Words p b) = got (basicSaid b) (p .0)
 basicRead (basic.Refused r) = refused (refusal r)
 
+abbrev pub pointRead : Pointed → Parsed tree.PointWord
+pointRead (point.Is p steps v) = got (pointWordSaid steps v) (p .0)
+pointRead (point.Refused r) = refused (refusal r)
+
 abbrev pub positionRead : Located → Parsed tree.PositionWord
-positionRead (position.Is p steps v) = got (positionWordSaid steps v) (p .0)
+positionRead (position.Is p d steps v) = got (positionWordSaid d steps v) (p .0)
 positionRead (position.Refused r) = refused (refusal r)
 
 abbrev pub zoneRead : Zoned → Parsed tree.Zone

@@ -8,8 +8,8 @@ ghost use Rattle.standard.specs.Tree.{given};
 ghost use Rattle.standard.specs.Marks as marks;
 ghost use Rattle.standard.specs.Meaning as meaning;
 ghost use Rattle.rows.specs.Kinds.{kindOf};
-ghost use Rattle.rows.specs.Say.{positionSaid, zoneSaid, sizeSaid, pictureSaid, rowSaid};
-ghost use Rattle.update.specs.Say.{gainWordSaid, basicSaid, groupsSaid, renderSaid, updateSaid};
+ghost use Rattle.rows.specs.Say.{pointSaid, zoneSaid, sizeSaid, pictureSaid, rowSaid};
+ghost use Rattle.update.specs.Say.{gainWordSaid, pointWordSaid, basicSaid, groupsSaid, renderSaid, updateSaid};
 use crate::words::Basic;
 use crate::words::Groups;
 use crate::words::Render;
@@ -20,7 +20,7 @@ use rows::numbers::SETTLED;
 use rows::numbers::SIDE_LIMIT;
 use rows::numbers::SILENCE;
 use rows::row::Picture;
-use rows::row::Position;
+use rows::row::Point;
 use rows::row::Row;
 use rows::row::Size;
 use rows::row::Zone;
@@ -100,7 +100,9 @@ fn new_picture(groups: Groups, before: Picture) -> Picture
     ensures { λ r. ⌜ pictureSaid r ≡ meaning.newPicture (given (groupsSaid groups)) (pictureSaid before) ⌝ }
 {
     Picture {
-        position: new_position(groups, before.position),
+        point: new_point(groups, before.point),
+        // Steps move the point alone: a distance is said with them, too.
+        distance: or_before(groups.flags, 3, groups.distance, before.distance),
         zone: new_zone(groups, before.zone),
         size: new_size(groups, before.size),
         screen: or_before(groups.flags, 0, groups.screen, before.screen),
@@ -108,20 +110,20 @@ fn new_picture(groups: Groups, before: Picture) -> Picture
     }
 }
 
-fn new_position(groups: Groups, before: Position) -> Position
-    ensures { λ r. ⌜ positionSaid r ≡ meaning.newPosition (groupsSaid groups .position) (positionSaid before) ⌝ }
+fn new_point(groups: Groups, before: Point) -> Point
+    ensures { λ r. ⌜ pointSaid r ≡ cond (isSet 3 (groups .flags)) (meaning.pointSaid (pointWordSaid (groups .steps) (groups .point)) (pointSaid before)) (pointSaid before) ⌝ }
 {
     let said = is_set(groups.flags, 3);
     if said & groups.steps {
-        return stepped(groups.position, before);
+        return stepped(groups.point, before);
     }
-    if said { groups.position } else { before }
+    if said { groups.point } else { before }
 }
 
-fn stepped(steps: Position, before: Position) -> Position
-    ensures { λ r. ⌜ positionSaid r ≡ meaning.stepped (positionSaid steps) (positionSaid before) ⌝ }
+fn stepped(steps: Point, before: Point) -> Point
+    ensures { λ r. ⌜ pointSaid r ≡ meaning.stepped (pointSaid steps) (pointSaid before) ⌝ }
 {
-    Position {
+    Point {
         x: step(before.x, steps.x, 0, SIDE_LIMIT),
         y: step(before.y, steps.y, 0, SIDE_LIMIT),
         z: step(before.z, steps.z, -HEIGHT_LIMIT, HEIGHT_LIMIT),

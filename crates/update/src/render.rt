@@ -83,7 +83,12 @@ fn read_groups(payload: &[u8], limit: BitPlace, at: BitPlace, flags: u32, first:
 {
     match read_position(payload, limit, at, flags, first) {
         Located::Refused(refusal) => RenderRead::Refused(refusal),
-        Located::Is(zone_at, steps, position) => match read_zone(payload, limit, zone_at, flags) {
+        Located::Is(zone_at, distance, steps, point) => match read_zone(
+            payload,
+            limit,
+            zone_at,
+            flags,
+        ) {
             Zoned::Refused(refusal) => RenderRead::Refused(refusal),
             Zoned::Is(size_at, zone) => match read_size(payload, limit, size_at, flags) {
                 Sized::Refused(refusal) => RenderRead::Refused(refusal),
@@ -94,8 +99,9 @@ fn read_groups(payload: &[u8], limit: BitPlace, at: BitPlace, flags: u32, first:
                         Flag::Is(lock, end) => {
                             let groups = Groups {
                                 flags,
+                                distance,
                                 steps,
-                                position,
+                                point,
                                 position_at: at,
                                 zone,
                                 zone_at,

@@ -1,6 +1,6 @@
 // What can be said of one object in one block, as in the paper's tree: words, each with the bit place of its reading.
 use bits::BitPlace;
-use rows::row::Position;
+use rows::row::Point;
 use rows::row::Size;
 use rows::row::Zone;
 
@@ -15,11 +15,12 @@ pub struct Basic {
     pub priority_at: BitPlace,
 }
 
-// Flags as above: position, zone, size, screen. A lock is always said.
+// Flags as above: position, zone, size, screen. A lock is always said. The position is a distance, and a point or steps.
 pub struct Groups {
     pub flags: u32,
+    pub distance: i16,
     pub steps: bool,
-    pub position: Position,
+    pub point: Point,
     pub position_at: BitPlace,
     pub zone: Zone,
     pub zone_at: BitPlace,

@@ -24,7 +24,7 @@ Agree es = CallsAgree (decode restOne (run firstCall freshTables es)) (decode re
 
 -- a row's x
 atX : Position → ℕ
-atX p = natAbs (p .x)
+atX p = natAbs (p .point .x)
 
 -- a payload that the first alone hears, without a warning: the block row, and the start row
 pub unwarned : Agree (heard movedOne ∷ missed onward ∷ []) → ⊥

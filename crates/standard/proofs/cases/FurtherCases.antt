@@ -8,7 +8,7 @@ use Rattle.standard.specs.Rows.{Row}
 use Rattle.standard.specs.Journal.{payload}
 use Rattle.standard.specs.Contexts as context
 use Rattle.standard.specs.Cases.{Case, allHold}
-use Rattle.standard.proofs.cases.Writer.{Bits, _⊳_, said, blocks, off, on, kept, unity, silent, level, copied, usual, priority, spot, place, to, moved, free, locked, plain, rich, groups, first, restOne, neg, row, onRow, offRow, richRow, defaultOf, shows, fails, lacks, far, written}
+use Rattle.standard.proofs.cases.Writer.{Bits, _⊳_, said, blocks, off, on, kept, unity, silent, level, copied, usual, priority, place, to, moved, free, locked, plain, rich, groups, first, restOne, neg, row, onRow, offRow, richRow, defaultOf, shows, fails, lacks, far, written}
 
 -- n new objects in b blocks: what is said of them, and their rows
 unfoldable pub become : ℕ → ℕ → Bits → List Row → Case
@@ -35,9 +35,6 @@ positionCases =
     -- 63 is taken for 62, in x and in y
     ∷ become 1 1 (first unity (place 63 20 1 15)) (onRow (pos 0) 32 62 20 (pos 15) 1 ∷ [])
     ∷ become 1 1 (first unity (place 10 63 0 15)) (onRow (pos 0) 32 10 62 (neg 15) 1 ∷ [])
-    -- a distance changes nothing: at infinity, and by its 4 bits
-    ∷ become 1 1 (on (unity ++ usual ++ spot 10 20 1 5 ++ 1 ⊳ 1 ++ 1 ⊳ 1 ++ rich)) (richRow 1 (pos 0) 32 10 20 (pos 5) 1 ∷ [])
-    ∷ become 1 1 (on (unity ++ usual ++ spot 10 20 1 5 ++ 1 ⊳ 1 ++ 1 ⊳ 0 ++ 4 ⊳ 15 ++ rich)) (richRow 1 (pos 0) 32 10 20 (pos 5) 1 ∷ [])
     -- steps beyond an end stay there: x at 0, y at 62, z at 15
     ∷ become 1 2 (first unity (place 2 60 1 13) ++ on (kept ++ groups 8 (moved 4 3 3 ++ free)))
     (onRow (pos 0) 32 2 60 (pos 13) 1 ∷ onRow (pos 0) 32 0 62 (pos 15) 1 ∷ [])
@@ -47,9 +44,6 @@ positionCases =
     -- between the ends steps of -4 and 3 are added
     ∷ become 1 3 (first unity (place 30 20 1 2) ++ on (kept ++ groups 8 (moved 4 3 4 ++ free)) ++ on (kept ++ groups 8 (moved 3 4 3 ++ free)))
     (onRow (pos 0) 32 30 20 (pos 2) 1 ∷ onRow (pos 0) 32 26 23 (neg 2) 1 ∷ onRow (pos 0) 32 29 19 (pos 1) 1 ∷ [])
-    -- a distance is dropped after steps too
-    ∷ become 1 2 (first unity (place 30 20 1 2) ++ on (kept ++ groups 8 (1 ⊳ 1 ++ 3 ⊳ 7 ++ 3 ⊳ 0 ++ 3 ⊳ 1 ++ 1 ⊳ 1 ++ 1 ⊳ 0 ++ 4 ⊳ 15 ++ free)))
-    (onRow (pos 0) 32 30 20 (pos 2) 1 ∷ onRow (pos 0) 32 29 20 (pos 3) 1 ∷ [])
     ∷ []
 
 -- Rest

@@ -14,7 +14,7 @@ use Rattle.standard.specs.Computed.{computed}
 pub first-block :
     update dynamic true (65 ∷ 199 ∷ 34 ∷ 67 ∷ 74 ∷ 128 ∷ []) 48 0
     ≡ got (active (record { gain = some (placedAt 1 (level (pos 12))); priority = some (placedAt 9 (pos 32)) }) (given (record {
-      position = some (placedAt 10 (absolute (record { x = pos 7; y = pos 8; z = pos 2 })));
+      position = some (placedAt 10 (record { point = absolute (record { x = pos 7; y = pos 8; z = pos 2 }); distance = pos 0 }));
       zone = some (placedAt 28 (record { zone = pos 1; elevation = pos 1 }));
       size = some (placedAt 32 (sized 5 5 5));
       screen = some (placedAt 39 (pos 0));
@@ -27,7 +27,7 @@ first-block = refl
 pub in-part :
     update dynamic false (111 ∷ 137 ∷ 225 ∷ 0 ∷ []) 32 0
     ≡ got (active (record { gain = none; priority = some (placedAt 5 (pos 32)) }) (given (record {
-      position = some (placedAt 12 (moved (record { x = pos 1; y = negsuc 0; z = pos 0 })));
+      position = some (placedAt 12 (record { point = moved (record { x = pos 1; y = negsuc 0; z = pos 0 }); distance = pos 0 }));
       zone = none;
       size = none;
       screen = none;

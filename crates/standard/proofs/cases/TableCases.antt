@@ -7,7 +7,7 @@ use lib.Dec.{T}
 use lib.IntN.{ℤ, pos}
 use lib.ListN.{length, take, replicate, set}
 use Rattle.bits.proofs.Always.{All}
-use Rattle.standard.specs.Numbers.{rowWidth, objectLimit, retainedLength, startLength, blocksLength, timingsLength, payloadLimit, silence, kindAt, activeAt, gainAt, priorityAt, xAt, yAt, zAt, widthAt, depthAt, heightAt, screenAt, lockAt, zoneAt, elevationAt, markAt}
+use Rattle.standard.specs.Numbers.{rowWidth, objectLimit, retainedLength, startLength, blocksLength, timingsLength, payloadLimit, silence, kindAt, activeAt, gainAt, priorityAt, xAt, yAt, zAt, widthAt, depthAt, heightAt, screenAt, lockAt, zoneAt, elevationAt, distanceAt, markAt}
 use Rattle.standard.specs.Numbers as number
 use Rattle.standard.specs.Contexts as context
 use Rattle.standard.specs.Tree.{Kind, lfe, bed, isf, dynamic, kindCode}
@@ -70,6 +70,8 @@ broken =
     ∷ altered gainAt (pos 16) ∷ altered gainAt (neg 50) ∷ altered gainAt (neg 127) ∷ altered gainAt (neg 129) ∷ altered priorityAt (pos 33) ∷ altered priorityAt (neg 1)
     -- x and y outside 0 to 62, z outside -15 to 15
     ∷ altered xAt (pos 63) ∷ altered xAt (neg 1) ∷ altered yAt (pos 63) ∷ altered yAt (neg 1) ∷ altered zAt (pos 16) ∷ altered zAt (neg 16)
+    -- distances outside 0 to 17
+    ∷ altered distanceAt (pos 18) ∷ altered distanceAt (neg 1)
     -- sizes outside 0 to 31, zones outside 0 to 5
     ∷ altered widthAt (pos 32) ∷ altered depthAt (pos 32) ∷ altered heightAt (pos 32) ∷ altered heightAt (neg 1) ∷ altered zoneAt (pos 6) ∷ altered zoneAt (neg 1)
     -- at rest with a priority, and with a gain
@@ -77,7 +79,7 @@ broken =
     -- fixed kinds whose picture is not the default: each number of it, of a Bed,
     ∷ alteredOf bed xAt (pos 30) ∷ alteredOf bed yAt (pos 30) ∷ alteredOf bed zAt (pos 1)
     ∷ alteredOf bed widthAt (pos 1) ∷ alteredOf bed depthAt (pos 1) ∷ alteredOf bed heightAt (pos 1)
-    ∷ alteredOf bed screenAt (pos 1) ∷ alteredOf bed lockAt (pos 1) ∷ alteredOf bed zoneAt (pos 1) ∷ alteredOf bed elevationAt (pos 0)
+    ∷ alteredOf bed screenAt (pos 1) ∷ alteredOf bed lockAt (pos 1) ∷ alteredOf bed zoneAt (pos 1) ∷ alteredOf bed elevationAt (pos 0) ∷ alteredOf bed distanceAt (pos 17)
     -- of an Lfe and an Isf; and such that are not settled
     ∷ alteredOf lfe xAt (pos 30) ∷ alteredOf isf xAt (pos 30)
     ∷ one (defaultOf 0 0) ∷ one (defaultOf 1 0) ∷ one (defaultOf 2 0)
@@ -90,7 +92,7 @@ whole =
     (pos 0 ∷ pos 1 ∷ []) ∷ rows (replicate 128 (defaultOf 3 1))
     ∷ one (defaultOf 0 1) ∷ one (defaultOf 1 1) ∷ one (defaultOf 2 1) ∷ one (inactiveOf 0 1) ∷ one (inactiveOf 3 0)
     ∷ altered gainAt (pos 15) ∷ altered gainAt (neg 49) ∷ altered gainAt (neg 128) ∷ altered priorityAt (pos 0)
-    ∷ altered xAt (pos 0) ∷ altered xAt (pos 62) ∷ altered yAt (pos 0) ∷ altered yAt (pos 62) ∷ altered zAt (pos 15) ∷ altered zAt (neg 15)
+    ∷ altered xAt (pos 0) ∷ altered xAt (pos 62) ∷ altered yAt (pos 0) ∷ altered yAt (pos 62) ∷ altered zAt (pos 15) ∷ altered zAt (neg 15) ∷ altered distanceAt (pos 1) ∷ altered distanceAt (pos 17)
     ∷ one (row 1 (pos 0) 32 0 0 (pos 0) 31 31 31 1 1 5 0 0)
     -- what lies behind the count is not looked at
     ∷ (one (defaultOf 3 1) ++ replicate rowWidth (pos 99)) ∷ []

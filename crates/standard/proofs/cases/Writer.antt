@@ -116,16 +116,29 @@ priority n = 1 ⊳ 0 ++ 5 ⊳ n
 unfoldable pub spot : ℕ → ℕ → ℕ → ℕ → Bits
 spot x y sign z = 6 ⊳ x ++ 6 ⊳ y ++ 1 ⊳ sign ++ 4 ⊳ z
 
+-- a distance: not specified, by its factor index, or infinity
+unfoldable pub near : Bits
+near = 1 ⊳ 0
+
+unfoldable pub factor : ℕ → Bits
+factor index = 1 ⊳ 1 ++ 1 ⊳ 0 ++ 4 ⊳ index
+
+unfoldable pub infinite : Bits
+infinite = 1 ⊳ 1 ++ 1 ⊳ 1
+
 -- in block 0, no distance
 unfoldable pub place : ℕ → ℕ → ℕ → ℕ → Bits
-place x y sign z = spot x y sign z ++ 1 ⊳ 0
+place x y sign z = spot x y sign z ++ near
 
 -- past block 0: absolute, or by steps in 3 bits (4 is -4, 7 is -1)
 unfoldable pub to : ℕ → ℕ → ℕ → ℕ → Bits
 to x y sign z = 1 ⊳ 0 ++ place x y sign z
 
+unfoldable pub steps : ℕ → ℕ → ℕ → Bits
+steps x y z = 1 ⊳ 1 ++ 3 ⊳ x ++ 3 ⊳ y ++ 3 ⊳ z
+
 unfoldable pub moved : ℕ → ℕ → ℕ → Bits
-moved x y z = 1 ⊳ 1 ++ 3 ⊳ x ++ 3 ⊳ y ++ 3 ⊳ z ++ 1 ⊳ 0
+moved x y z = steps x y z ++ near
 
 unfoldable pub free : Bits
 free = 1 ⊳ 0
@@ -171,13 +184,32 @@ row a g n x y z w d h s l c e m =
       gain = g;
       priority = pos n;
       picture = record {
-        position = record { x = pos x; y = pos y; z = z };
+        position = record { point = record { x = pos x; y = pos y; z = z }; distance = pos 0 };
         zone = record { zone = pos c; elevation = pos e };
         size = record { width = pos w; depth = pos d; height = pos h };
         screen = pos s;
         lock = pos l;
       };
       mark = pos m;
+    }
+
+-- any row, at a distance
+abbrev pub distant : ℕ → Row → Row
+distant n r =
+    let p = r .picture in
+    record {
+      kind = r .kind;
+      active = r .active;
+      gain = r .gain;
+      priority = r .priority;
+      picture = record {
+        position = record { point = p .position .point; distance = pos n };
+        zone = p .zone;
+        size = p .size;
+        screen = p .screen;
+        lock = p .lock;
+      };
+      mark = r .mark;
     }
 
 -- with a plain picture, active or not
@@ -228,7 +260,7 @@ farther = 33 * rowWidth
 
 -- Everything opened, for the tables of cases: `unfolding written`
 unfoldable pub written : Unit {0}
-unfolding computed cases.computed flatten _⊳_ bytesFrom bytes filled sizeGroups element elements dynamicOnly said saidWithLfe block timed blocks off on kept unity silent level copied usual priority spot place to moved free locked plain rich groups first gives shows fails lacks
+unfolding computed cases.computed flatten _⊳_ bytesFrom bytes filled sizeGroups element elements dynamicOnly said saidWithLfe block timed blocks off on kept unity silent level copied usual priority spot near factor infinite place to steps moved free locked plain rich groups first gives shows fails lacks
 written = tt
 
 -- at rest it is payload A

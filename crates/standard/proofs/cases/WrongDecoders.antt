@@ -192,7 +192,7 @@ unfoldable pub mirrored : Row → Row
 mirrored r =
     let p = r .picture in
     let q : Picture = record {
-      position = record { x = p .position .x; y = p .position .y; z = negℤ (p .position .z) };
+      position = record { point = record { x = p .position .point .x; y = p .position .point .y; z = negℤ (p .position .point .z) }; distance = p .position .distance };
       zone = p .zone;
       size = p .size;
       screen = p .screen;

@@ -1,98 +1,59 @@
--- Each turn writes the next start row.
-use Prim.Native.Nat.{_+_, _*_, _-_, _≤_}
+-- The retained rows as they stand, or row by row.
+use Prim.Native.Nat.{_+_, _*_, _≤_}
 use mathlib.Core.Path.{_≡_, sym, _∙_}
-use mathlib.Core.Bool.{cond}
+use mathlib.Core.Bool.{true}
 use mathlib.Core.List.{map}
 use native.Mathlib.Omega.{arith}
 use borrow.Author.Needs.{needs}
 use lib.IntN.{pos}
 use lib.ListN.{length, getD}
-use Rattle.standard.specs.Numbers.{rowWidth, objectLimit, retainedHead, startLength}
-use Rattle.standard.specs.Rows.{noRow}
-use Rattle.standard.specs.Meaning.{heldRow, defaultRow, startRows}
+use Rattle.standard.specs.Numbers.{doubtAt, rowWidth, objectLimit, retainedHead, retainedLength, startLength}
+use Rattle.standard.specs.Rows.{is}
+use Rattle.standard.specs.Meaning.{sameKinds}
 use Rattle.standard.specs.Tables.{stateOf}
-use Rattle.rows.specs.Say.{rowSaid}
-use Rattle.rows.specs.Places.{rowAt}
+use Rattle.standard.proofs.Small.{and-left, and-right}
 use Rattle.rows.specs.Kinds.{kindOf}
-use Rattle.rows.proofs.Tests.{back}
-use Rattle.oamd.proofs.StartRows.{Writing, write-none, write-long, write-row, write-all}
-use Rattle.oamd.proofs.Starting.{starts-count, start-found}
+use Rattle.rows.proofs.Tests.{bits-is}
+use Rattle.oamd.proofs.Starting.{starts-copied}
 use Rattle.oamd.proofs.starts.write_starts.Statement.{statement}
 use Rattle.oamd.proofs.starts.write_starts.Tie as tie
 
-abbrev Inv-loop : tie.InvT-loop
-Inv-loop retained kinds start₀ held object₀ end start object =
-    Writing (startRows (stateOf retained) (map kindOf kinds)) start₀ object start
+abbrev entry : tie.Then1 → tie.Start
+entry c = c .before .before .before
 
-abbrev μ-loop : tie.MeasureT-loop
-μ-loop retained kinds start₀ held object₀ end start object = length kinds - object
+long : (c : tie.Start) → retainedHead + length (c .args .kinds .now) * rowWidth ≤ length (c .args .retained .now)
+unfolding rowWidth objectLimit retainedHead retainedLength
+long c = omega (arith, c .pre .0 .long, c .pre .1 .0)
 
--- back from a row that was found, and from the loop
-
-abbrev looped : tie.After-start-row Inv-loop μ-loop → tie.At-loop Inv-loop μ-loop
-looped c = c .before .before .before
-
-abbrev entry : tie.At-loop Inv-loop μ-loop → tie.Start Inv-loop μ-loop
-entry c = c .before .before
-
-count : (c : tie.At-loop Inv-loop μ-loop) →
-    let a = entry c .args in
-    length (startRows (stateOf (a .retained .now)) (map kindOf (a .kinds .now))) ≡ length (a .kinds .now)
-count c =
-    let a = entry c .args in
-    starts-count (a .kinds .now) (a .retained .now)
-
-fits : (c : tie.At-loop Inv-loop μ-loop) →
-    let a = entry c .args in
-    length (startRows (stateOf (a .retained .now)) (map kindOf (a .kinds .now))) * rowWidth ≤ length (a .start .now)
+room : (c : tie.Start) → length (c .args .kinds .now) * rowWidth ≤ length (c .args .start .now)
 unfolding rowWidth objectLimit startLength
-fits c =
-    let p = entry c .pre .1 in
-    let few = p .0 in
-    let long = p .1 in
-    let n = count c in
-    omega arith
+room c = omega (arith, c .pre .1)
 
--- the row that was found is the next one
-found : (c : tie.After-start-row Inv-loop μ-loop) →
-    let l = looped c in
-    let a = entry l .args in
-    rowSaid (c .start-row .result) ≡ getD (startRows (stateOf (a .retained .now)) (map kindOf (a .kinds .now))) (l .loop .object) noRow
-found c =
-    let l = looped c in
-    let a = entry l .args in
-    let r = a .retained .now in
-    let same = l .before .same-kinds .ensures in
-    let kind = back {z = getD (a .kinds .now) (l .loop .object) (pos 0)} (c .before .start-row-arg .given) in
-    c .start-row .ensures
-    ∙ (λ i. cond (same i) (heldRow (stateOf r .doubt) (rowAt r (retainedHead + l .loop .object * rowWidth))) (defaultRow (stateOf r .doubt) (kindOf (kind i))))
-    ∙ sym (start-found (a .kinds .now) r (l .loop .object) (c .before .before .loop-test .taken))
+held : (c : tie.Then1) → let a = entry c .args in sameKinds (map kindOf (a .kinds .now)) (stateOf (a .retained .now) .rows) ≡ true
+held c = sym (c .before .before .same-kinds .ensures) ∙ and-left _ _ (c .if1 .taken)
 
-loop-again : tie.Need-loop-again Inv-loop μ-loop
-unfolding rowWidth
-loop-again c =
-    let r = c .before .before .before in
-    let l = looped r in
-    let h = r .before .before .loop-test .taken in
-    let n = count l in
-    rw (c .before .put-row .ensures, found r) (write-row (fits l) (l .loop .inv) (omega arith))
+calm : (c : tie.Then1) → is 0 (stateOf (entry c .args .retained .now) .doubt) ≡ true
+unfolding stateOf
+calm c = sym (bits-is 0 (getD (entry c .args .retained .now) doubtAt (pos 0)) (omega arith) (search needs)) ∙ and-right (c .before .before .same-kinds .result) _ (c .if1 .taken)
+
+returns : tie.Need-returns
+unfolding rowWidth retainedHead
+returns c =
+    let t = c .before .before .before in
+    let a = entry t .args in
+    c .before .copy .ensures ∙ starts-copied (a .kinds .now) (a .retained .now) (a .start .now) (held t) (calm t) (long (entry t)) (room (entry t))
 
 pub write-starts-spec : {M : Type 1} → statement M
-unfolding rowWidth objectLimit startLength
+unfolding rowWidth objectLimit retainedHead retainedLength startLength
 write-starts-spec =
     tie.close
     (tie.spec
-    Inv-loop
-    μ-loop
     (λ c κs. search needs)
-    (λ c. write-none _ _)
-    (λ c. omega arith)
-    (λ c. omega arith)
+    (λ c. omega (arith, c .before .pre .0 .long))
+    (λ c. omega (arith, c .before .before .before .before .pre .1 .0))
+    (λ c κs. (long (c .before .before .before .before), omega (arith, room (c .before .before .before .before))))
+    (λ c. search needs)
+    returns
     (λ c κs. search needs)
-    (λ c. omega arith)
-    (λ c κs. let l = looped (c .before) in omega (arith, write-long (fits l) (l .loop .inv)))
-    (λ c. omega arith)
-    (λ c. omega arith)
-    loop-again
-    (λ c. write-long (fits (c .before)) (c .before .loop .inv))
-    (λ c. write-all (fits (c .before)) (c .before .loop .inv) (omega (arith, count (c .before)))))
+    (λ c. search needs)
+    (λ c. search needs))

@@ -11,8 +11,8 @@ use Rattle.rows.proofs.form.picture_form.Tie as tie
 returns : tie.Need-returns
 unfolding pictureForm pictureTests
 returns c =
-    all-pass (pictureTests (pictureSaid (c .before .before .before .before .before .before .before .args .p)))
-    (c .before .before .before .before .before .before .position-form .ensures
+    all-pass (pictureTests (pictureSaid (c .before .before .before .before .before .before .before .before .args .p)))
+    (c .before .before .before .before .before .before .position-form .ensures ∙ search needs
     and c .before .before .before .before .before .zone-form .ensures
     and c .before .before .before .before .size-form .ensures
     and c .before .before .is-flag .ensures ∙ search needs

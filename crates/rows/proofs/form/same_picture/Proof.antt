@@ -11,8 +11,8 @@ returns c =
     let zone = size .before in
     let position = zone .before in
     let a = position .before .args in
-    let fits-p = c .before .before .struct-told3 .given .1 .1 .1 in
-    let fits-q = c .struct-told4 .given .1 .1 .1 in
+    let fits-p = c .before .before .struct-told3 .given .1 .1 .1 .1 in
+    let fits-q = c .struct-told4 .given .1 .1 .1 .1 in
     all-pass _
     (position .same-position .ensures
     and zone .same-zone .ensures

@@ -1,4 +1,4 @@
--- Number by number, each by its bits.
+-- The point, and the distance by its bits.
 use borrow.Author.Needs.{needs}
 use Rattle.rows.proofs.Lists.{_and_, no-more}
 use Rattle.rows.proofs.Tests.{bits-same, all-pass}
@@ -7,12 +7,12 @@ use Rattle.rows.proofs.form.same_position.Tie as tie
 
 returns : tie.Need-returns
 returns c =
-    let a = c .before .before .before .before .before .before .before .before .before .before .before .before .args in
+    let point = c .before .before .before .before in
+    let a = point .before .args in
     all-pass _
-    (bits-same (a .p .x) (a .q .x) (search needs) (search needs)
-    and bits-same (a .p .y) (a .q .y) (search needs) (search needs)
-    and bits-same (a .p .z) (a .q .z) (search needs) (search needs)
+    (point .same-point .ensures
+    and bits-same (a .p .distance) (a .q .distance) (search needs) (search needs)
     and no-more)
 
 pub same-position-spec : {M : Type 1} → statement M
-same-position-spec = tie.close (tie.spec returns)
+same-position-spec = tie.close (tie.spec (λ c κs. search needs) returns)

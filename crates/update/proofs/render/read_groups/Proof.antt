@@ -29,7 +29,7 @@ at-size : (c : tie.After-read-size) →
     let z = c .before .before in
     let p = z .before .before .before .before in
     let a = p .before .before .before .before .args in
-    let position = asked (isSet 3 (a .flags)) (a .at .0) (positionWordSaid (p .zone-at .given .0 .1 .0) (p .zone-at .given .0 .1 .1 .0)) in
+    let position = asked (isSet 3 (a .flags)) (a .at .0) (positionWordSaid (p .zone-at .given .0 .1 .0) (p .zone-at .given .0 .1 .1 .0) (p .zone-at .given .0 .1 .1 .1 .0)) in
     let zone = asked (isSet 2 (a .flags)) (p .zone-at .given .0 .0 .0) (zoneSaid (z .size-at .given .0 .1 .0)) in
     mapP given (groups (a .first) (a .flags)) (a .payload .now) (a .limit .0) (a .at .0)
     ≡ mapParsed given (andThen (ifAsked (isSet 1 (a .flags)) (z .size-at .given .0 .0 .0) (sizeRead (c .read-size .result))) (λ n. behind (a .flags) position zone n (a .payload .now) (a .limit .0)))
@@ -58,7 +58,11 @@ returns-6 c =
     let l = c .before .before .before in
     let s = l .before .before .before .before in
     let n = s .before .before .before .before in
+    let z = n .before .before .before .before in
+    let told = z .before .before .before in
+    let distance = told .before .zone-at .given .0 .1 .0 in
     rw (
+      back {z = distance} (told .known-told2 .given .1 .0 .1),
       at-size (n .before .before),
       n .screen-at .given .1,
       ← (s .before .before .read-screen .ensures),

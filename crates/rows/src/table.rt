@@ -71,9 +71,7 @@ pub fn clear(table: &mut [i16], n: usize)
     requires { ⌜ n ≤ length (now table) ⌝ }
     ensures { λ _. ⌜ now (table .exit) ≡ over (replicate n (pos 0)) (now (table .entry)) ⌝ }
 {
-    for i in 0..n {
-        table[i] = 0;
-    }
+    clear_from(table, 0, n);
 }
 
 // The `n` numbers that begin at `at` become 0.

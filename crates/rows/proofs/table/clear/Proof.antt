@@ -1,41 +1,18 @@
--- A zero more is stored each turn.
-use Prim.Native.Nat.{_-_}
+-- Cleared from the head on.
+use mathlib.Core.Path.{_∙_}
 use native.Mathlib.Omega.{arith}
+use borrow.Author.Needs.{needs}
 use lib.IntN.{pos}
-use lib.ListN.{replicate}
-use Rattle.rows.proofs.Storing.{Storing, begin, fill-turn, filled}
+use lib.ListN.{replicate, length-replicate}
+use Rattle.rows.proofs.Written.{written-over}
 use Rattle.rows.proofs.table.clear.Statement.{statement}
 use Rattle.rows.proofs.table.clear.Tie as tie
 
-abbrev Inv-loop : tie.InvT-loop
-Inv-loop table₀ n i₀ table i = Storing table₀ 0 (replicate i (pos 0)) n i table
-
-abbrev μ-loop : tie.MeasureT-loop
-μ-loop table₀ n i₀ table i = n - i
-
-loop-holds : tie.Need-loop-holds Inv-loop μ-loop
-loop-holds c = begin (c .args .table .now) 0 (c .args .n)
-
-loop-again : tie.Need-loop-again Inv-loop μ-loop
-loop-again c = fill-turn (pos 0) (c .loop-test .taken) (c .before .loop .inv)
-
-same-length : tie.Need-same-length Inv-loop μ-loop
-same-length c = c .before .loop .inv .long
-
-returns : tie.Need-returns Inv-loop μ-loop
-returns c = filled (pos 0) (c .loop-test .left) (c .before .before .pre) (c .before .loop .inv)
+returns : tie.Need-returns
+returns c =
+    let start = c .before .before .before in
+    let n = length-replicate (start .args .n) (pos 0) in
+    c .before .clear-from .ensures ∙ written-over (start .args .table .now) (replicate (start .args .n) (pos 0)) (omega (arith, start .pre))
 
 pub clear-spec : {M : Type 1} → statement M
-clear-spec =
-    tie.close
-    (tie.spec
-    Inv-loop
-    μ-loop
-    loop-holds
-    (λ c. omega arith)
-    (λ c. omega arith)
-    (λ c. omega arith)
-    (λ c. omega arith)
-    loop-again
-    same-length
-    returns)
+clear-spec = tie.close (tie.spec (λ c κs. search needs) (λ c. search needs) returns)

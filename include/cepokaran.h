@@ -75,7 +75,7 @@ enum {
     CEPOKARAN_ZONE = 12,     /* 0 to 5: the zone-constraints index */
     CEPOKARAN_ELEVATION = 13,/* 0 or 1: the elevation-enabled flag */
     CEPOKARAN_DISTANCE = 14, /* 0 not specified; 1 to 16; or CEPOKARAN_INFINITY: see below */
-    CEPOKARAN_MARK = 15      /* 1 settled, 0 unsettled: see oamd_decode */
+    CEPOKARAN_MARK = 15      /* 0 to 31, a bit for each group that is settled: see oamd_decode */
 };
 
 enum cepokaran_kind {
@@ -91,6 +91,17 @@ enum { CEPOKARAN_SILENCE = -128 }; /* the gain of minus infinity */
  * Every position that is read sets it, a step too; while an object is inactive it stays. It is a number of the
  * row itself, and oamd_shown has no float of it. */
 enum { CEPOKARAN_INFINITY = 17 }; /* the distance of a storm or a crowd: infinitely far */
+
+/* The bits of a mark, and what each tells a mixer where it is set. Where it is not, the numbers of the group are
+ * the last that were heard, or the default, and the mix may have others. */
+enum {
+    CEPOKARAN_POSITION_BIT = 1, /* x, y, z, distance: the object stands where the mix puts it */
+    CEPOKARAN_ZONE_BIT = 2,     /* zone, elevation: it sounds from those speakers that the mix lets it use */
+    CEPOKARAN_SIZE_BIT = 4,     /* width, depth, height: it is as large as in the mix */
+    CEPOKARAN_SCREEN_BIT = 8,   /* screen: it follows the screen, or not, as in the mix */
+    CEPOKARAN_LOCK_BIT = 16,    /* lock: it snaps to a speaker, or not, as in the mix */
+    CEPOKARAN_SETTLED = 31      /* all five: the whole picture is the mix's */
+};
 
 /* ---- Numbers given back ---------------------------------------------------------------------- */
 
@@ -118,7 +129,7 @@ enum cepokaran_number {
 /* Number 0 is the object count, number 1 the doubt (1 after a gap notice or a reset), and then come the
  * rows of the last block that was accepted. A table that was started or reset, and is written by these
  * calls alone, is in form for ever; it may be stored, copied and compared as it is. Only a table that was
- * stored when rows had no distance cannot be used: begin with oamd_reset.
+ * stored when rows had no distance, or when a mark was 0 or 1, cannot be used: begin with oamd_reset.
  *
  * Which of the three calls, and when:
  *
@@ -160,7 +171,7 @@ enum {
     CEPOKARAN_PLACE = 1,    /* refused by 1 to 4: its bit, counted from the payload's first */
     CEPOKARAN_OBJECTS = 2,  /* accepted: how many objects, 1 to 128 */
     CEPOKARAN_BLOCKS = 3,   /* accepted: how many blocks, 1 to 8 */
-    CEPOKARAN_UNSETTLED = 4,/* accepted: how many rows of the last block have mark 0 */
+    CEPOKARAN_UNSETTLED = 4,/* accepted: how many rows of the last block have a mark below CEPOKARAN_SETTLED */
     CEPOKARAN_MISSING = 5,  /* refused by 1: how many bits were missing, 1 to 559,232; else 0 */
     CEPOKARAN_ANSWER_LENGTH = 6
 };
@@ -185,10 +196,19 @@ enum {
  * the rest of these tables is unchanged. Retained becomes the last block's rows, without doubt.
  *
  * A row's mark says what to believe after payloads were missed and a gap notice or a reset was given for
- * them. What is settled is what a decoder would hold that missed nothing. In a block row the mark stands
- * for x to distance; kind, active, gain and priority are such anyway. In a start row it stands for all
- * but the kind. A block row is settled once a payload tells the whole of its picture. Without a gap notice
- * or a reset since the last start, or since a table of zeros, every row is settled.
+ * them. A group of the picture whose bit is set is what a decoder would hold that missed nothing, whatever
+ * the other bits are: an object may stand at its true place while its zone is unknown. A program that takes
+ * every mark but 0 for settled was built when there was one bit: compare with CEPOKARAN_SETTLED.
+ *
+ * A bit is set once its group is read. Steps leave the position's bit as it was, since a step from an unknown
+ * place leads to one, although their distance is new. The lock is read at every render status 1 and 3, and
+ * status 0, the default picture, sets all five. No bit falls within a frame. A block row of a fixed kind is
+ * settled, and so is each of a Dynamic object that is active in the first block. Without a gap notice or a
+ * reset since the last start, or since a table of zeros, every mark is CEPOKARAN_SETTLED.
+ *
+ * In a block row kind, active, gain and priority are always what such a decoder would hold. In a start row the
+ * kind is; active, gain and priority are unless retained[CEPOKARAN_DOUBT] was 1 before the call, and then the
+ * row's mark is 0.
  *
  * The timings are not tested here: oamd_timing does that, and undoes nothing.
  *

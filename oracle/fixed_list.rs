@@ -5,7 +5,7 @@ use oracle::call::Call;
 use oracle::fixed::sequences;
 use oracle::journal::Record;
 use oracle::listener::{Expected, Listener};
-use oracle::tables::RETAINED_HEAD;
+use oracle::tables::{ALL_SETTLED, LOCK_BIT, MARK, NONE_SETTLED, RETAINED_HEAD, ROW_WIDTH};
 use std::collections::BTreeSet;
 use std::io::{self, Write};
 
@@ -15,7 +15,7 @@ const END: &[u8] = b"E";
 
 pub fn write(seed: u64, out: &mut impl Write) -> io::Result<()> {
     let mut listener = Listener::default();
-    let mut seen = BTreeSet::new();
+    let mut seen = Seen::default();
     for records in sequences(seed) {
         out.write_all(SEQUENCE)?;
         for record in records {
@@ -26,23 +26,50 @@ pub fn write(seed: u64, out: &mut impl Write) -> io::Result<()> {
                 }
                 Record::Payload(payload) => {
                     let expected = listener.decode(&payload);
-                    seen.insert((expected.said.number, expected.said.context));
+                    seen.count(&expected);
                     write_payload(&payload, &expected, &listener.retained(), out)?;
                 }
             }
         }
     }
     out.write_all(END)?;
-    let reachable = aims()
-        .into_iter()
-        .map(|aim| (u32::from(aim.number), u32::from(aim.context)));
-    let unseen: BTreeSet<_> = reachable.filter(|pair| !seen.contains(pair)).collect();
-    if !unseen.is_empty() {
-        return Err(io::Error::other(format!(
-            "refusals not in the list: {unseen:?}"
-        )));
+    seen.check()
+}
+
+/// What the list must have.
+#[derive(Default)]
+struct Seen {
+    answers: BTreeSet<(u32, u32)>,
+    /// Of block rows.
+    marks: BTreeSet<i16>,
+}
+
+impl Seen {
+    fn count(&mut self, expected: &Expected) {
+        let said = expected.said;
+        self.answers.insert((said.number, said.context));
+        let rows = expected.blocks.chunks(ROW_WIDTH);
+        self.marks.extend(rows.map(|row| row[MARK]));
     }
-    Ok(())
+
+    fn check(&self) -> io::Result<()> {
+        let refusals = aims()
+            .into_iter()
+            .map(|aim| (u32::from(aim.number), u32::from(aim.context)));
+        let refusals: BTreeSet<_> = refusals
+            .filter(|pair| !self.answers.contains(pair))
+            .collect();
+        // The lock is read with every other group, so a programme leads to no other marks.
+        let mut marks = vec![NONE_SETTLED];
+        marks.extend(LOCK_BIT..=ALL_SETTLED);
+        marks.retain(|mark| !self.marks.contains(mark));
+        if refusals.is_empty() && marks.is_empty() {
+            return Ok(());
+        }
+        Err(io::Error::other(format!(
+            "not in the list: refusals {refusals:?}, marks {marks:?}"
+        )))
+    }
 }
 
 fn mark(call: Call) -> &'static [u8] {

@@ -3,8 +3,8 @@
 use crate::random::Random;
 use crate::row::{unmarked, Row};
 use crate::tables::{ACTIVE, GAIN, KIND, MARK, PRIORITY, ROW_WIDTH, X};
+use crate::tables::{ALL_SETTLED, DEFAULT_PICTURE, DYNAMIC, LOWEST_GAIN, RANGES, SILENCE};
 use crate::tables::{COUNT, DOUBT, MOST_OBJECTS, RETAINED_HEAD, RETAINED_LENGTH};
-use crate::tables::{DEFAULT_PICTURE, DYNAMIC, LOWEST_GAIN, RANGES, SILENCE};
 
 /// Rows past the count are not looked at.
 pub fn in_form(table: &[i16]) -> bool {
@@ -14,24 +14,19 @@ pub fn in_form(table: &[i16]) -> bool {
 }
 
 fn row_in_form(row: &[i16]) -> bool {
+    can_be_shown(row) && (row[KIND] == DYNAMIC || row[MARK] == ALL_SETTLED)
+}
+
+/// The form of a row to be shown: a fixed kind may have any mark.
+pub fn can_be_shown(row: &[i16]) -> bool {
     let ranged = row
         .iter()
         .zip(RANGES)
         .all(|(&number, (low, high))| (low..=high).contains(&number));
     let gain = row[GAIN] == SILENCE || row[GAIN] >= LOWEST_GAIN;
     let silent = row[ACTIVE] == 1 || (row[GAIN], row[PRIORITY]) == (SILENCE, 0);
-    let fixed = row[KIND] == DYNAMIC || (row[X..MARK] == DEFAULT_PICTURE && row[MARK] == 1);
+    let fixed = row[KIND] == DYNAMIC || row[X..MARK] == DEFAULT_PICTURE;
     ranged && gain && silent && fixed
-}
-
-/// The form of a row to be shown: a fixed kind may have either mark.
-pub fn can_be_shown(row: &[i16]) -> bool {
-    let mut marked = row.to_vec();
-    let fixed = row[KIND] != DYNAMIC;
-    if fixed && (0..=1).contains(&row[MARK]) {
-        marked[MARK] = 1;
-    }
-    row_in_form(&marked)
 }
 
 /// A random table in form with these kinds. Numbers past the count are any.
@@ -45,14 +40,25 @@ pub fn random_table(random: &mut Random, kinds: &[i16]) -> Vec<i16> {
     table
 }
 
-/// A row in form of this kind.
-pub fn random_row(random: &mut Random, kind: i16) -> [i16; ROW_WIDTH] {
+/// A row of this kind that may be retained.
+fn random_row(random: &mut Random, kind: i16) -> [i16; ROW_WIDTH] {
+    let mut row = random_shown_row(random, kind);
+    if kind != DYNAMIC {
+        row[MARK] = ALL_SETTLED;
+    }
+    row
+}
+
+/// A row of this kind that can be shown.
+pub fn random_shown_row(random: &mut Random, kind: i16) -> [i16; ROW_WIDTH] {
     let within = |random: &mut Random, (low, high): (i16, i16)| {
         let any = low + random.below((high - low + 1) as u32) as i16;
         random.pick(&[low, high, any, any, any])
     };
     let mut row = RANGES.map(|range| within(random, range));
     row[KIND] = kind;
+    // No payload leads to some of the marks, so each is drawn as often as the others.
+    row[MARK] = random.between(0, ALL_SETTLED as u32) as i16;
     if row[GAIN] < LOWEST_GAIN {
         row[GAIN] = random.pick(&[SILENCE, LOWEST_GAIN]);
     }
@@ -61,7 +67,6 @@ pub fn random_row(random: &mut Random, kind: i16) -> [i16; ROW_WIDTH] {
     }
     if kind != DYNAMIC {
         row[X..MARK].copy_from_slice(&DEFAULT_PICTURE);
-        row[MARK] = 1;
     }
     row
 }

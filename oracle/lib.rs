@@ -20,6 +20,7 @@ pub mod distances;
 pub mod form;
 pub mod journal;
 pub mod listener;
+pub mod mark_mistakes;
 pub mod marks;
 mod notes;
 pub mod orders;

@@ -4,7 +4,8 @@ use crate::answer::{Frame, Oracle, Refusal, Row};
 use crate::call::Call;
 use crate::distances;
 use crate::form::rows_of;
-use crate::marks::{Marks, Mistake};
+use crate::mark_mistakes::Mistake;
+use crate::marks::Marks;
 use crate::orders::Order;
 use crate::tables::{COUNT, DOUBT, KIND, MARK, RETAINED_HEAD, RETAINED_LENGTH, ROW_WIDTH};
 
@@ -90,7 +91,7 @@ impl Listener {
         self.oracle.plant(&rows);
         let marks = table[RETAINED_HEAD..]
             .chunks(ROW_WIDTH)
-            .map(|row| row[MARK] == 1);
+            .map(|row| row[MARK]);
         self.marks.marks = marks.take(rows.len()).collect();
         self.marks.kinds = rows.iter().map(|row| row[KIND]).collect();
         self.marks.doubt = table[DOUBT] == 1;
@@ -120,12 +121,11 @@ impl Listener {
     fn accept(&mut self, frame: Frame) -> Expected {
         let blocks = frame.timings.len();
         let marks = self.marks.accept(&frame.kinds, blocks, &frame.orders);
-        let last = &marks.blocks[marks.blocks.len() - frame.kinds.len()..];
         Expected {
             said: Said {
                 objects: frame.kinds.len() as u32,
                 blocks: blocks as u32,
-                unsettled: last.iter().filter(|settled| !**settled).count() as u32,
+                unsettled: marks.unsettled,
                 ..Said::default()
             },
             timings: frame.timings.as_flattened().to_vec(),
@@ -148,10 +148,10 @@ impl Listener {
     }
 }
 
-fn marked(rows: &[Row], marks: &[bool]) -> Vec<i16> {
+fn marked(rows: &[Row], marks: &[i16]) -> Vec<i16> {
     assert_eq!(rows.len(), marks.len(), "a mark for each row");
     let pairs = rows.iter().zip(marks);
     pairs
-        .flat_map(|(row, &mark)| row.iter().copied().chain([i16::from(mark)]))
+        .flat_map(|(row, &mark)| row.iter().copied().chain([mark]))
         .collect()
 }

@@ -24,7 +24,8 @@
 //!     and no very long payload.
 //!
 //! `list SEED`: writes the fixed list that the program `replay` runs; it fails if a reachable pair of
-//!     number and context is not in it. docs/notes/replay-list.md has its format.
+//!     number and context is not in it, or a mark that payloads lead to. docs/notes/replay-list.md has
+//!     its format.
 //!
 //! `covered SEED COUNT`: writes COUNT payloads, each in a line: the answer's number (0 accepted), the
 //!     payload's bytes in hexadecimal, and how many fields cover each of them.

@@ -1,58 +1,26 @@
 //! The specification's "Marks and doubt" as a small model: the Rust decoder has no marks.
 
 use crate::call::Call;
+use crate::mark_mistakes::Mistake;
 use crate::orders::{followed, Order, Position};
-use crate::tables::DYNAMIC;
+use crate::tables::{ALL_SETTLED, DYNAMIC, GROUP_BITS, NONE_SETTLED};
+use crate::tables::{LOCK_BIT, POSITION_BIT, SCREEN_BIT, SIZE_BIT, ZONE_BIT};
 
-/// A wrong reading of the specification, for the test that a comparison with this model can fail.
-#[derive(Clone, Copy, Debug, PartialEq, Eq)]
-pub enum Mistake {
-    StartLeavesDoubt,
-    ResetClearsDoubt,
-    DoubtIgnored,
-    DoubtKept,
-    RefusalClearsDoubt,
-    ChangedKindsSettleInDoubt,
-    EqualKindsSettle,
-    FixedKeepTheStartMark,
-    DifferentialSettles,
-    ThreeGroupsSettle,
-    GroupsAddUp,
-    StatusZeroSettlesNothing,
-    InactiveUnsettles,
-    FirstBlockIsKept,
-}
-
-pub const MISTAKES: [Mistake; 14] = [
-    Mistake::StartLeavesDoubt,
-    Mistake::ResetClearsDoubt,
-    Mistake::DoubtIgnored,
-    Mistake::DoubtKept,
-    Mistake::RefusalClearsDoubt,
-    Mistake::ChangedKindsSettleInDoubt,
-    Mistake::EqualKindsSettle,
-    Mistake::FixedKeepTheStartMark,
-    Mistake::DifferentialSettles,
-    Mistake::ThreeGroupsSettle,
-    Mistake::GroupsAddUp,
-    Mistake::StatusZeroSettlesNothing,
-    Mistake::InactiveUnsettles,
-    Mistake::FirstBlockIsKept,
-];
-
-/// What is retained of marks; true is settled.
+/// What is retained of marks, by object.
 #[derive(Clone, Debug, Default)]
 pub struct Marks {
     pub doubt: bool,
     pub kinds: Vec<i16>,
-    pub marks: Vec<bool>,
+    pub marks: Vec<i16>,
     pub mistake: Option<Mistake>,
 }
 
 /// The marks of an accepted frame: of each object, and of block b, object o at b x objects + o.
 pub struct FrameMarks {
-    pub start: Vec<bool>,
-    pub blocks: Vec<bool>,
+    pub start: Vec<i16>,
+    pub blocks: Vec<i16>,
+    /// How many rows of the last block are unsettled.
+    pub unsettled: u32,
 }
 
 impl Marks {
@@ -78,63 +46,139 @@ impl Marks {
     pub fn accept(&mut self, kinds: &[i16], blocks: usize, orders: &[Order]) -> FrameMarks {
         let objects = kinds.len();
         let start = self.start(kinds);
-        let begin: Vec<(bool, u32)> = start.iter().map(|&mark| (mark, 0)).collect();
-        let rows = followed(&begin, blocks, orders, |object, before, order| {
+        let rows = followed(&start, blocks, orders, |object, before, order| {
             self.after(kinds[object], before, order)
         });
-        let rows: Vec<bool> = rows.into_iter().map(|(mark, _)| mark).collect();
+        let last = objects * (blocks - 1);
         let first = self.has(Mistake::FirstBlockIsKept);
-        let kept = if first { 0 } else { objects * (blocks - 1) };
+        let kept = if first { 0 } else { last };
         self.marks = rows[kept..kept + objects].to_vec();
         self.kinds = kinds.to_vec();
         self.doubt &= self.has(Mistake::DoubtKept);
         FrameMarks {
             start,
+            unsettled: rows[last..].iter().map(|&mark| self.counted(mark)).sum(),
             blocks: rows,
         }
     }
 
-    fn start(&self, kinds: &[i16]) -> Vec<bool> {
+    fn start(&self, kinds: &[i16]) -> Vec<i16> {
         let equal = self.kinds == kinds;
         let trusted = !equal && self.has(Mistake::ChangedKindsSettleInDoubt);
         if self.doubt && !trusted && !self.has(Mistake::DoubtIgnored) {
-            vec![false; kinds.len()]
-        } else if equal && !self.has(Mistake::EqualKindsSettle) {
-            self.marks.clone()
-        } else {
-            vec![true; kinds.len()]
+            return kinds.iter().map(|&kind| self.doubted(kind)).collect();
+        }
+        let mark = match self.mistake {
+            Some(Mistake::ChangedKindsUnsettle) if !equal => NONE_SETTLED,
+            Some(Mistake::EqualKindsSettle) => ALL_SETTLED,
+            _ if equal => return self.marks.clone(),
+            _ => ALL_SETTLED,
+        };
+        vec![mark; kinds.len()]
+    }
+
+    /// The mark of a start row in doubt.
+    fn doubted(&self, kind: i16) -> i16 {
+        match self.mistake {
+            Some(Mistake::DoubtSettles) => ALL_SETTLED,
+            Some(Mistake::FixedSettledInDoubt) if kind != DYNAMIC => ALL_SETTLED,
+            _ => NONE_SETTLED,
         }
     }
 
-    /// The mark of an object in a block, with the groups that are counted, after those of the block before.
-    fn after(&self, kind: i16, (mark, before): (bool, u32), order: &Order) -> (bool, u32) {
+    /// The mark of an object in a block, after that of the row before.
+    fn after(&self, kind: i16, before: i16, order: &Order) -> i16 {
         if kind != DYNAMIC {
-            return (mark || !self.has(Mistake::FixedKeepTheStartMark), 0);
+            let kept = self.has(Mistake::FixedKeepTheStartMark);
+            return if kept { before } else { ALL_SETTLED };
         }
-        let added = self.has(Mistake::GroupsAddUp);
-        let groups = self.groups_of(order) | if added { before } else { 0 };
-        let three = self.has(Mistake::ThreeGroupsSettle);
-        let enough = if three { 3 } else { 4 };
-        let reset = order.render_status == Some(0) && !self.has(Mistake::StatusZeroSettlesNothing);
-        let lost = !order.active && self.has(Mistake::InactiveUnsettles);
-        let settled = reset || u32::count_ones(groups) >= enough;
-        (settled || (mark && !lost), groups)
+        let settled = self.settled(order);
+        let mark = self.kept(before, order, settled) | settled;
+        let four = mark.count_ones() == 4 && self.has(Mistake::FourGroupsSettleAll);
+        if four {
+            ALL_SETTLED
+        } else {
+            mark
+        }
     }
 
-    /// A bit for each group that is read anew; a differential position is none.
-    fn groups_of(&self, order: &Order) -> u32 {
+    /// What stays of the mark before: rightly all of it.
+    fn kept(&self, before: i16, order: &Order, settled: i16) -> i16 {
+        let moved = order.position == Some(Position::Differential);
+        match self.mistake {
+            Some(Mistake::InactiveUnsettles) if !order.active => NONE_SETTLED,
+            Some(Mistake::GroupsDoNotAddUp) if settled != NONE_SETTLED => NONE_SETTLED,
+            Some(Mistake::DifferentialUnsettles) if moved => before & !POSITION_BIT,
+            _ => before,
+        }
+    }
+
+    /// The groups that an order settles, whatever was before.
+    fn settled(&self, order: &Order) -> i16 {
+        let read = self.read(order);
+        match (self.mistake, order.render_status) {
+            (Some(Mistake::StatusZeroSettlesNothing), Some(0)) => NONE_SETTLED,
+            (Some(Mistake::StatusZeroSettlesPosition), Some(0)) => POSITION_BIT,
+            (Some(Mistake::StatusTwoSettles), Some(2)) => ALL_SETTLED,
+            (_, Some(0)) => ALL_SETTLED,
+            (Some(Mistake::OneGroupSettlesAll), _) if read != NONE_SETTLED => ALL_SETTLED,
+            (Some(Mistake::AllGroupsOrNone), _) if read != ALL_SETTLED => NONE_SETTLED,
+            (Some(Mistake::BitsReversed), _) => reversed(read),
+            _ => read,
+        }
+    }
+
+    /// The groups that are read anew; a differential position is none.
+    fn read(&self, order: &Order) -> i16 {
         let position = match order.position {
             Some(Position::Absolute) => true,
             Some(Position::Differential) => self.has(Mistake::DifferentialSettles),
             None => false,
         };
-        let groups = [position, order.zone, order.size, order.screen];
-        groups
-            .into_iter()
-            .fold(0, |all, group| all << 1 | u32::from(group))
+        let zone_bit = match self.mistake {
+            Some(Mistake::ElevationLeavesTheZone) => NONE_SETTLED,
+            Some(Mistake::ZoneSettlesSize) => SIZE_BIT,
+            _ => ZONE_BIT,
+        };
+        let groups = [
+            (position, POSITION_BIT),
+            (order.zone, zone_bit),
+            (order.size, SIZE_BIT),
+            (order.screen, SCREEN_BIT),
+            (self.reads_lock(order), LOCK_BIT),
+        ];
+        let read = groups.into_iter().filter(|(read, _)| *read);
+        read.fold(NONE_SETTLED, |mark, (_, bit)| mark | bit)
+    }
+
+    /// Whether the lock counts as read: rightly wherever its flag is, which is at each render status 1 and 3.
+    fn reads_lock(&self, order: &Order) -> bool {
+        let every = order.position.is_some() && order.zone && order.size && order.screen;
+        match self.mistake {
+            Some(Mistake::LockNeedsEveryGroup) => order.lock && every,
+            Some(Mistake::LockNeedsStatusOne) => order.lock && order.render_status != Some(3),
+            Some(Mistake::LockSettlesNothing) => false,
+            _ => order.lock,
+        }
+    }
+
+    /// What a row of the last block adds to the unsettled count.
+    fn counted(&self, mark: i16) -> u32 {
+        match self.mistake {
+            Some(Mistake::NoneSettledAloneCounts) => u32::from(mark == NONE_SETTLED),
+            Some(Mistake::GroupsAreCounted) => (ALL_SETTLED ^ mark).count_ones(),
+            _ => u32::from(mark != ALL_SETTLED),
+        }
     }
 
     fn has(&self, mistake: Mistake) -> bool {
         self.mistake == Some(mistake)
     }
+}
+
+/// The mark with its bits in the reverse order.
+pub fn reversed(mark: i16) -> i16 {
+    let bits = GROUP_BITS.into_iter().zip(GROUP_BITS.into_iter().rev());
+    let set = bits.filter(|(bit, _)| mark & bit != 0);
+    set.fold(NONE_SETTLED, |mark, (_, other)| mark | other)
 }

@@ -41,6 +41,7 @@ pub struct Order {
     pub zone: bool,
     pub size: bool,
     pub screen: bool,
+    pub lock: bool,
 }
 
 impl Order {
@@ -58,6 +59,7 @@ impl Order {
             c::ZONE_CONSTRAINTS_INDEX => self.zone = true,
             c::OBJECT_SIZE_INDEX => self.size = true,
             c::SCREEN_REFERENCE_FLAG => self.screen = true,
+            c::OBJECT_SNAP_FLAG => self.lock = true,
             _ => {}
         }
     }

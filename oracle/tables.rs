@@ -35,6 +35,29 @@ pub const ELEVATION: usize = 13;
 pub const DISTANCE: usize = 14;
 pub const MARK: usize = ROW_WIDTH - 1;
 
+/// A mark has a bit for each group of the picture, which is set where the group is settled.
+pub const POSITION_BIT: i16 = 1;
+pub const ZONE_BIT: i16 = 2;
+pub const SIZE_BIT: i16 = 4;
+pub const SCREEN_BIT: i16 = 8;
+pub const LOCK_BIT: i16 = 16;
+pub const GROUP_BITS: [i16; 5] = [POSITION_BIT, ZONE_BIT, SIZE_BIT, SCREEN_BIT, LOCK_BIT];
+
+pub const NONE_SETTLED: i16 = 0;
+pub const ALL_SETTLED: i16 = 31;
+
+/// The bit of the group that a column of the picture belongs to.
+pub fn group_bit(column: usize) -> i16 {
+    match column {
+        X | Y | Z | DISTANCE => POSITION_BIT,
+        ZONE | ELEVATION => ZONE_BIT,
+        WIDTH | DEPTH | HEIGHT => SIZE_BIT,
+        SCREEN => SCREEN_BIT,
+        LOCK => LOCK_BIT,
+        _ => panic!("column {column} is none of the picture"),
+    }
+}
+
 /// The names of a row's numbers.
 pub const COLUMNS: [&str; ROW_WIDTH] = [
     "kind",
@@ -87,7 +110,7 @@ pub const RANGES: [(i16, i16); ROW_WIDTH] = [
     (0, ZONE_LIMIT),
     (0, 1),
     (0, INFINITY),
-    (0, 1),
+    (NONE_SETTLED, ALL_SETTLED),
 ];
 
 /// The default picture.

@@ -20,12 +20,16 @@ class Bits:
         return bytes(int(text[i : i + 8], 2) for i in range(0, len(text), 8))
 
 
-# What is said of one object in one block. Each writes its own bits; `settles` says whether the whole
-# picture is known afterwards, whatever it was before.
+# The bits of a mark, one for each group of the picture.
+POSITION, ZONE, SIZE, SCREEN, LOCK = 1, 2, 4, 8, 16
+EVERY_GROUP = POSITION | ZONE | SIZE | SCREEN | LOCK
+
+# What is said of one object in one block. Each writes its own bits; `settles` has the bits of the groups that are
+# known afterwards, whatever they were before.
 
 
 class Inactive:
-    settles = False
+    settles = 0
 
     def write(self, bits, first, dynamic):
         bits.flag(True)  # not active
@@ -37,7 +41,7 @@ class Active:
 
     def __init__(self, render=None):
         self.render = render
-        self.settles = render is not None and render.settles
+        self.settles = 0 if render is None else render.settles
 
     def write(self, bits, first, dynamic):
         bits.flag(False)
@@ -54,7 +58,7 @@ class Active:
 class At:
     """Stands at x, y of 62nds and z of 15ths, in block 0 or later: all four groups, an absolute position."""
 
-    settles = True
+    settles = EVERY_GROUP
 
     def __init__(self, x, y, z, first=True):
         self.x, self.y, self.z, self.first = x, y, z, first
@@ -63,17 +67,31 @@ class At:
         if not self.first:
             bits.put(1, 2)  # render status: all four groups
             bits.flag(False)  # not differential
-        bits.put(self.x, 6)
-        bits.put(self.y, 6)
-        bits.flag(self.z >= 0)  # sign: 1 is positive
-        bits.put(abs(self.z), 4)
+        write_place(bits, self.x, self.y, self.z)
         write_rest(bits)
 
 
-class Moved:
-    """Past block 0: steps from -4 to 3 from where it stood, so it is known only if that was."""
+class Placed:
+    """Past block 0: says where it stands, and nothing of its other groups but the lock, which is always said."""
 
-    settles = False
+    settles = POSITION | LOCK
+
+    def __init__(self, x, y, z):
+        self.place = (x, y, z)
+
+    def write(self, bits):
+        bits.put(3, 2)  # render status: the groups that are flagged
+        bits.put(8, 4)  # the position alone
+        bits.flag(False)  # not differential
+        write_place(bits, *self.place)
+        bits.flag(False)  # no distance
+        bits.flag(False)  # no lock
+
+
+class Moved:
+    """Past block 0: steps from -4 to 3 from where it stood, so its place is known only if that was."""
+
+    settles = EVERY_GROUP & ~POSITION
 
     def __init__(self, x, y, z):
         self.steps = (x, y, z)
@@ -89,7 +107,7 @@ class Moved:
 class Kept:
     """Past block 0: the picture stays as it was."""
 
-    settles = False
+    settles = 0
 
     def write(self, bits):
         bits.put(2, 2)  # render status: kept
@@ -98,10 +116,17 @@ class Kept:
 class Parked:
     """Past block 0: the default picture, said by the mix itself."""
 
-    settles = True
+    settles = EVERY_GROUP
 
     def write(self, bits):
         bits.put(0, 2)  # render status: default
+
+
+def write_place(bits, x, y, z):
+    bits.put(x, 6)
+    bits.put(y, 6)
+    bits.flag(z >= 0)  # sign: 1 is positive
+    bits.put(abs(z), 4)
 
 
 def write_rest(bits):

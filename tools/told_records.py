@@ -1,6 +1,10 @@
 """Journals and recorders' files as they are made record by record, with the lines that are to be printed of them."""
 
+import functools
+import operator
+
 from container_bits import OBJECT_ID, Carried, Container
+from payload_bits import EVERY_GROUP
 
 
 class Journal:
@@ -39,15 +43,15 @@ class Journal:
     def accept(self, payload):
         """The specification, section 9, "Marks and doubt", of a payload that is accepted."""
         kinds = payload.assignment.kinds
-        start = self.marks if kinds == self.kinds else [True] * len(kinds)
+        start = self.marks if kinds == self.kinds else [EVERY_GROUP] * len(kinds)
         if self.doubt:
-            start = [False] * len(kinds)
+            start = [0] * len(kinds)
         self.kinds, self.doubt = kinds, False
         self.marks = [
-            not dynamic or mark or any(update.settles for update in updates)
+            functools.reduce(operator.or_, (update.settles for update in updates), mark) if dynamic else EVERY_GROUP
             for dynamic, mark, updates in zip(kinds, start, payload.objects)
         ]
-        unsettled = self.marks.count(False)
+        unsettled = sum(mark != EVERY_GROUP for mark in self.marks)
         self.raw(payload.bytes, f"ok {len(kinds)} {payload.blocks} {unsettled}")
 
     def refuse_nothing(self):

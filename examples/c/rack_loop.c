@@ -1,5 +1,6 @@
 /*
- * A rack's loop in C: a short programme, with a power dip in it, and a rack that is re-patched.
+ * A rack's loop in C: a short programme, with a power dip in it, a bell that rejoins bit by bit, and a rack
+ * that is re-patched.
  *
  * The programme has three objects: an Lfe, a narrator and a bell. It is played from the bytes below.
  * A rack says what it knows of the past by one of three calls: oamd_start at the head of a programme,
@@ -46,6 +47,11 @@ static const uint8_t walk[] = {0x05, 0x84, 0x7C, 0x08, 0x0B, 0x0C, 0x48, 0x2F, 0
 static const uint8_t rejoin[] = {0x05, 0x84, 0x6C, 0x08, 0x02, 0x1D, 0x22, 0x41,
                                  0xA0, 0xA8, 0x04, 0x0A, 0x46, 0x57, 0x00};
 
+/* 2 blocks, at 0 and at 256, without ramps. The narrator is told. The bell is inactive, and then says where it is,
+ * (20, 40, 5), and nothing of its zone, size and screen. */
+static const uint8_t placed[] = {0x05, 0x84, 0x74, 0x08, 0x01, 0x04, 0x44, 0x86, 0x82,
+                                 0xE0, 0x10, 0x13, 0x22, 0x78, 0x29, 0x45, 0x40};
+
 /* 1 block, at 32 with a ramp of 1,536, which ends behind the frame. The bell is told at (10, 40, 5), infinitely
  * far: its distance is 11 and not 0, and the element has a byte more. */
 static const uint8_t late[] = {0x05, 0x84, 0x6C, 0x00, 0x34, 0x43, 0x41, 0x90,
@@ -73,6 +79,7 @@ static const struct frame programme[] = {
     {"the narrator walks", walk, sizeof walk, HEARS},
     {"the bell moves", late, sizeof late, HAS_NO_POWER},
     {"the bell is where it was", rejoin, sizeof rejoin, HEARS},
+    {"the bell says where it is", placed, sizeof placed, HEARS},
     {"the bell moves, and its ramp is too long", late, sizeof late, HEARS},
     {"a payload whose end was lost", late, sizeof late - 5, HEARS},
     {"the bell is where it was", after, sizeof after, HEARS},
@@ -80,6 +87,7 @@ static const struct frame programme[] = {
 };
 
 static const char *const names[] = {"lfe", "narrator", "bell"};
+static const char *const groups[] = {"position", "zone", "size", "screen", "lock"}; /* from the lowest bit */
 static const uint32_t listened[] = {0, 256, 600, 1024, CEPOKARAN_FRAME_LENGTH - 1};
 
 /* ---- What a rack holds ----------------------------------------------------------------------- */
@@ -105,7 +113,18 @@ static void print_ramps(uint32_t block_count)
     }
 }
 
-/* The floats of a row, its distance, and whether all that is sure. Distance and mark are numbers of the row. */
+/* The groups that may differ from the mix. A mixer trusts the others. */
+static void print_unsettled(int16_t mark)
+{
+    if (mark == CEPOKARAN_SETTLED)
+        return;
+    printf(", UNSETTLED:");
+    for (size_t i = 0; i < sizeof groups / sizeof *groups; i++)
+        if ((mark >> i & 1) == 0)
+            printf(" %s", groups[i]);
+}
+
+/* The floats of a row, its distance, and what of it is not sure. Distance and mark are numbers of the row. */
 static void print_row(const char *name, const int16_t *table, size_t length, uint32_t index)
 {
     float values[CEPOKARAN_SHOWN_LENGTH] = {0};
@@ -124,7 +143,8 @@ static void print_row(const char *name, const int16_t *table, size_t length, uin
         printf(", infinitely far");
     else if (row[CEPOKARAN_DISTANCE] > 0)
         printf(", distance factor %d", row[CEPOKARAN_DISTANCE] - 1);
-    printf("%s\n", row[CEPOKARAN_MARK] ? "" : ", UNSETTLED");
+    print_unsettled(row[CEPOKARAN_MARK]);
+    printf("\n");
 }
 
 /* One payload: decoded, its timings tested, its ramps asked, its last block shown. */

@@ -13,6 +13,8 @@ pub struct Bench {
     pub listener: Listener,
     /// A number to be expected wrongly, once.
     pub spoil: Option<Spoil>,
+    /// Whether a gap notice or a reset came since the last programme start, or may have.
+    pub warned: bool,
     calls: u16,
 }
 
@@ -23,6 +25,7 @@ impl Bench {
             expected: Tables::new(),
             listener,
             spoil: None,
+            warned: false,
             calls: 0,
         }
     }
@@ -36,6 +39,7 @@ impl Bench {
 
     pub fn call(&mut self, call: Call) -> Result<(), Difference> {
         self.listener.call(call);
+        self.warned = call != Call::Start;
         self.prepare();
         let retained = &mut self.expected.retained[..RETAINED_LENGTH];
         if call != Call::Gap {
@@ -95,6 +99,8 @@ impl Bench {
     /// Both decoders go on from this retained table.
     pub fn plant(&mut self, table: &[i16]) {
         self.listener.plant(table);
+        // Zeros are what a programme start writes.
+        self.warned = table.iter().any(|&number| number != 0);
         self.found.retained[..NEEDED[RETAINED]].copy_from_slice(table);
     }
 }

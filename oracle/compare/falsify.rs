@@ -1,57 +1,38 @@
 //! Shows that the comparison can fail: wrong numbers, one of each sort, a wrong decoder of longer payloads,
-//! wrong models of the marks and of the distances, and wrong readers of containers.
+//! wrong marks, wrong models of the marks and of the distances, and wrong readers of containers.
 
 use crate::appended::Fault;
-use crate::heard_all::{Breach, Wrong, BREACHES};
+use crate::heard_all::Breach;
+use crate::mark_rule::Lapse;
 use crate::run::Run;
 use crate::spoil::{spoils, Spoil};
-use oracle::distances;
+use crate::wrong::Wrong;
+use oracle::distances::{Mistake as Misplaced, MISTAKES as MISPLACED};
 use oracle::listener::Listener;
-use oracle::marks::{Mistake, MISTAKES};
+use oracle::mark_mistakes::{Mistake, MISTAKES};
+use std::fmt::Debug;
 
 /// Enough for each spoil's moment, and for each mistake to show.
 const SEQUENCES: usize = 20_000;
 
 pub fn falsify(seed: u64) -> bool {
-    let spoils = spoils();
+    let number = |spoil: &Spoil| wrong_number(seed, *spoil);
+    let heard = |wrong: &Wrong| wrongly_heard(seed, *wrong);
+    let longer = |fault: &Fault| faulty_longer(seed, *fault);
+    let beside = |breach: &Breach| breached(seed, *breach);
+    let marks = |lapse: &Lapse| lapsed(seed, *lapse);
+    let model = |mistake: &Mistake| wrong_model(seed, Listener::mistaken(*mistake));
+    let misplaced = |mistake: &Misplaced| wrong_model(seed, Listener::misplaced(*mistake));
     let wrongs = Wrong::all();
-    let faults = Fault::all();
-    let numbers: Vec<bool> = spoils
-        .iter()
-        .map(|spoil| wrong_number(seed, *spoil))
-        .collect();
-    let heard: Vec<bool> = wrongs
-        .iter()
-        .map(|wrong| wrongly_heard(seed, *wrong))
-        .collect();
-    let longer: Vec<bool> = faults
-        .iter()
-        .map(|fault| faulty_longer(seed, *fault))
-        .collect();
-    let models: Vec<bool> = MISTAKES
-        .iter()
-        .map(|mistake| wrong_model(seed, *mistake))
-        .collect();
-    let misplaced: Vec<bool> = distances::MISTAKES
-        .iter()
-        .map(|mistake| finds_a_difference(Run::new(seed, Listener::misplaced(*mistake))))
-        .collect();
-    let breaches: Vec<bool> = BREACHES
-        .iter()
-        .map(|breach| breached(seed, *breach))
-        .collect();
     report_views(seed)
         & report_containers(seed)
-        & report("wrong numbers", &spoils, &numbers)
-        & report(
-            "numbers wrongly heard by the other decoder",
-            &wrongs,
-            &heard,
-        )
-        & report("faults of longer payloads", &faults, &longer)
-        & report("events that break the demand", &BREACHES, &breaches)
-        & report("wrong models of marks", &MISTAKES, &models)
-        & report("wrong models of distances", &distances::MISTAKES, &misplaced)
+        & report("wrong numbers", &spoils(), number)
+        & report("numbers wrongly heard by the other decoder", &wrongs, heard)
+        & report("faults of longer payloads", &Fault::all(), longer)
+        & report("breaches of the demand", &Breach::all(), beside)
+        & report("lapses of the mark rule", &Lapse::all(), marks)
+        & report("wrong models of marks", &MISTAKES, model)
+        & report("wrong models of distances", &MISPLACED, misplaced)
 }
 
 #[cfg(not(views))]
@@ -63,8 +44,7 @@ fn report_views(_seed: u64) -> bool {
 #[cfg(views)]
 fn report_views(seed: u64) -> bool {
     use crate::views::Views;
-    let parts = Views::parts();
-    let found = |part: &&'static str| {
+    report("wrong numbers of views", &Views::parts(), |part| {
         let mut views = Views::new(seed);
         views.spoil = Some(*part);
         (0..SEQUENCES).any(|_| {
@@ -72,9 +52,7 @@ fn report_views(seed: u64) -> bool {
                 .case()
                 .is_err_and(|difference| difference.part == *part)
         })
-    };
-    let found: Vec<bool> = parts.iter().map(found).collect();
-    report("wrong numbers of views", &parts, &found)
+    })
 }
 
 #[cfg(not(containers))]
@@ -102,19 +80,19 @@ fn report_containers(seed: u64) -> bool {
         containers.mistake = Some(*mistake);
         (0..SEQUENCES).any(|_| containers.case().is_err())
     };
-    let spoiled: Vec<bool> = SPOILS.iter().map(at_once).collect();
-    let mistaken: Vec<bool> = MISTAKES.iter().map(found).collect();
-    report("wrong numbers and bytes of containers", &SPOILS, &spoiled)
-        & report("wrong readers of containers", &MISTAKES, &mistaken)
+    report("wrong numbers and bytes of containers", &SPOILS, at_once)
+        & report("wrong readers of containers", &MISTAKES, found)
 }
 
-fn report(name: &str, all: &[impl std::fmt::Debug], right: &[bool]) -> bool {
-    let good = right.iter().filter(|good| **good).count();
+/// Prints how many are judged rightly, and names the others.
+fn report<T: Debug>(name: &str, all: &[T], rightly: impl Fn(&T) -> bool) -> bool {
+    let wrongly: Vec<&T> = all.iter().filter(|one| !rightly(one)).collect();
+    let good = all.len() - wrongly.len();
     println!("{name}: {}, of these judged rightly {good}", all.len());
-    for (one, _) in all.iter().zip(right).filter(|(_, good)| !**good) {
+    for one in &wrongly {
         println!("judged wrongly: {one:?}");
     }
-    good == all.len()
+    wrongly.is_empty()
 }
 
 /// A difference is found when the number is spoiled, and not before.
@@ -151,14 +129,21 @@ fn judged(mut run: Run, spoiled: impl Fn(&Run) -> bool, is_found: bool) -> bool 
     false
 }
 
+/// Marks that break the mark rule are found at once.
+fn lapsed(seed: u64, lapse: Lapse) -> bool {
+    let mut run = Run::new(seed, Listener::default());
+    run.mark_rule.lapse = Some(lapse);
+    judged(run, |run| run.mark_rule.lapse.is_none(), true)
+}
+
 fn breached(seed: u64, breach: Breach) -> bool {
     let mut run = Run::new(seed, Listener::default());
     run.all.breach = Some(breach);
     finds_a_difference(run)
 }
 
-fn wrong_model(seed: u64, mistake: Mistake) -> bool {
-    finds_a_difference(Run::new(seed, Listener::mistaken(mistake)))
+fn wrong_model(seed: u64, listener: Listener) -> bool {
+    finds_a_difference(Run::new(seed, listener))
 }
 
 fn finds_a_difference(mut run: Run) -> bool {

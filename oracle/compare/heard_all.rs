@@ -1,23 +1,24 @@
 //! A Rust decoder that heard every payload, beside a proved one that missed some and was told so.
 //!
 //! What must agree: refusals, kinds, timings, and in block rows activity, gain and priority. Unless the
-//! proved one is astray, so must the picture wherever it is called settled, and in start rows activity,
-//! gain and priority, unless doubt stood, by a gap notice or a reset.
+//! proved one is astray, so must each group of the picture that the row's mark calls settled, and in start
+//! rows activity, gain and priority, unless doubt stood, by a gap notice or a reset.
 
 use crate::difference::{self, number, Difference};
 use crate::events::{Event, Following};
 use crate::proved::Tables;
-use crate::spoil::{spoil_answer, ANSWERS};
+use crate::spoil::spoil_answer;
+use crate::wrong::Wrong;
 use oracle::answer::{Frame, Oracle, Row};
 use oracle::call::Call;
 use oracle::listener::Said;
-use oracle::tables::{ACTIVE, COLUMNS, MARK, ROW_WIDTH, X};
+use oracle::marks::reversed;
+use oracle::tables::{group_bit, ACTIVE, COLUMNS, GROUP_BITS, MARK, NONE_SETTLED, ROW_WIDTH, X};
 use std::ops::Range;
 
-/// The kind; activity, gain and priority; the picture: as columns of a row.
-const KIND: Range<usize> = 0..ACTIVE;
-const SOUND: Range<usize> = ACTIVE..X;
-const PICTURE: Range<usize> = X..MARK;
+/// The kind and the picture, as columns of a row.
+pub const KIND: Range<usize> = 0..ACTIVE;
+pub const PICTURE: Range<usize> = X..MARK;
 
 #[derive(Default)]
 pub struct HeardAll {
@@ -29,54 +30,69 @@ pub struct HeardAll {
     pub breach: Option<Breach>,
 }
 
-/// What demand 3 does not allow, and must show.
+/// Events that demand 3 does not have, and agreement that it does not promise: each must show.
 #[derive(Clone, Copy, Debug, PartialEq, Eq)]
 pub enum Breach {
     /// A programme start goes to the proved decoder alone.
     StartToOne,
     /// What the proved decoder hears astray is compared in full.
     AstrayCompared,
+    /// Activity, gain and priority of start rows are compared though doubt stood.
+    DoubtCompared,
+    /// The group of this bit is compared, settled or not.
+    UnsettledCompared(i16),
+    /// A row with one settled group is compared in full.
+    OneForAll,
+    BitsReversed,
 }
 
-pub const BREACHES: [Breach; 2] = [Breach::StartToOne, Breach::AstrayCompared];
+impl Breach {
+    pub fn all() -> Vec<Breach> {
+        let mut all = vec![
+            Breach::StartToOne,
+            Breach::AstrayCompared,
+            Breach::DoubtCompared,
+            Breach::OneForAll,
+            Breach::BitsReversed,
+        ];
+        all.extend(GROUP_BITS.map(Breach::UnsettledCompared));
+        all
+    }
+}
 
-/// Which number is heard wrongly.
 #[derive(Clone, Copy, Debug, PartialEq, Eq)]
-pub enum Wrong {
-    /// A number of a refusal.
-    Refusal(usize),
-    Timing,
-    /// A column of a start row that has to agree.
-    Start(usize),
-    /// A column of a block row that has to agree.
-    Block(usize),
-    /// The same where the proved decoder is astray.
-    Astray(usize),
-    /// A column of a block row that need not agree: this must not be found.
-    Free(usize),
+pub enum Table {
+    Start,
+    Block,
 }
 
 /// What stood before a payload that both hear.
 #[derive(Clone, Copy)]
-struct Before {
+pub struct Before {
     doubted: bool,
-    astray: bool,
+    pub astray: bool,
+    breach: Option<Breach>,
 }
 
 impl Before {
-    /// Whether a column of a start row has to agree.
-    fn binds_start(self, column: usize, row: &[i16]) -> bool {
-        let told = if SOUND.contains(&column) {
-            !self.doubted
-        } else {
-            row[MARK] == 1
-        };
-        KIND.contains(&column) || (told && !self.astray)
+    /// Whether a column of a row has to agree. Of a block row the payload tells all but the picture.
+    pub fn binds(self, table: Table, column: usize, row: &[i16]) -> bool {
+        if PICTURE.contains(&column) {
+            return self.calls_settled(column, row[MARK]) && !self.astray;
+        }
+        let told = table == Table::Block || (!self.doubted && !self.astray);
+        told || KIND.contains(&column)
     }
 
-    /// Of a block row all but the picture is told by the payload itself.
-    fn binds_block(self, column: usize, row: &[i16]) -> bool {
-        !PICTURE.contains(&column) || (row[MARK] == 1 && !self.astray)
+    /// Whether a mark calls a column of the picture settled.
+    fn calls_settled(self, column: usize, mark: i16) -> bool {
+        let bit = group_bit(column);
+        match self.breach {
+            Some(Breach::UnsettledCompared(group)) if group == bit => true,
+            Some(Breach::OneForAll) => mark != NONE_SETTLED,
+            Some(Breach::BitsReversed) => reversed(mark) & bit != 0,
+            _ => mark & bit != 0,
+        }
     }
 }
 
@@ -91,9 +107,14 @@ impl HeardAll {
         self.following = self.following.after(event);
     }
 
-    /// Whether the proved decoder cannot know that it missed something.
-    fn is_astray(&self) -> bool {
-        self.following == Following::Astray && self.breach != Some(Breach::AstrayCompared)
+    /// It is astray where it cannot know that it missed something.
+    fn before(&self, doubted: bool) -> Before {
+        let astray = self.following == Following::Astray;
+        Before {
+            doubted: doubted && self.breach != Some(Breach::DoubtCompared),
+            astray: astray && self.breach != Some(Breach::AstrayCompared),
+            breach: self.breach,
+        }
     }
 
     /// A payload that the proved decoder misses.
@@ -120,15 +141,9 @@ impl HeardAll {
             }
             Ok(mut frame) => {
                 number("heard all: number", 0, said.number)?;
-                let before = Before {
-                    doubted,
-                    astray: self.is_astray(),
-                };
-                if let Some(wrong) = self.spoil {
-                    if wrong.apply(&mut frame, tables, before) {
-                        self.spoil = None;
-                    }
-                }
+                let before = self.before(doubted);
+                self.spoil
+                    .take_if(|wrong| wrong.apply(&mut frame, tables, before));
                 compare_frame(&frame, said, tables, before)
             }
         }
@@ -146,78 +161,23 @@ fn compare_frame(
     for (heard, &found) in frame.timings.as_flattened().iter().zip(&tables.timings) {
         number("heard all: timings", *heard, found)?;
     }
-    for (heard, found) in frame.start.iter().zip(tables.start.chunks(ROW_WIDTH)) {
-        compare_row("start", heard, found, |column| {
-            before.binds_start(column, found)
-        })?;
-    }
-    for (heard, found) in frame.blocks.iter().zip(tables.blocks.chunks(ROW_WIDTH)) {
-        compare_row("block", heard, found, |column| {
-            before.binds_block(column, found)
-        })?;
-    }
-    Ok(())
+    compare_rows(Table::Start, &frame.start, &tables.start, before)?;
+    compare_rows(Table::Block, &frame.blocks, &tables.blocks, before)
 }
 
-fn compare_row(
-    table: &str,
-    heard: &Row,
+fn compare_rows(
+    table: Table,
+    heard: &[Row],
     found: &[i16],
-    binds: impl Fn(usize) -> bool,
+    before: Before,
 ) -> Result<(), Difference> {
-    for column in (0..MARK).filter(|&column| binds(column)) {
-        if heard[column] != found[column] {
-            let part = format!("heard all: {table} {}", COLUMNS[column]);
+    for (heard, found) in heard.iter().zip(found.chunks(ROW_WIDTH)) {
+        let bound = (0..MARK).filter(|&column| before.binds(table, column, found));
+        let mut differing = bound.filter(|&column| heard[column] != found[column]);
+        if let Some(column) = differing.next() {
+            let part = format!("heard all: {table:?} {}", COLUMNS[column]);
             return number(&part, heard[column], found[column]);
         }
     }
     Ok(())
-}
-
-impl Wrong {
-    pub fn all() -> Vec<Wrong> {
-        let mut all: Vec<Wrong> = (0..ANSWERS).map(Wrong::Refusal).collect();
-        all.push(Wrong::Timing);
-        all.extend((0..MARK).map(Wrong::Start));
-        all.extend((0..MARK).map(Wrong::Block));
-        all.extend((0..X).map(Wrong::Astray));
-        all.extend(PICTURE.map(Wrong::Free));
-        all
-    }
-
-    pub fn is_found(self) -> bool {
-        !matches!(self, Wrong::Free(_))
-    }
-
-    /// Answers whether the frame has such a number.
-    fn apply(self, frame: &mut Frame, tables: &Tables, before: Before) -> bool {
-        let start = frame.start.iter_mut().zip(tables.start.chunks(ROW_WIDTH));
-        let blocks = frame.blocks.iter_mut().zip(tables.blocks.chunks(ROW_WIDTH));
-        match self {
-            Wrong::Refusal(_) => false,
-            Wrong::Timing => {
-                frame.timings[0][0] ^= 1;
-                true
-            }
-            Wrong::Start(column) => flip(start, column, |row| before.binds_start(column, row)),
-            Wrong::Block(column) => flip(blocks, column, |row| before.binds_block(column, row)),
-            Wrong::Astray(column) => {
-                before.astray && flip(blocks, column, |row| before.binds_block(column, row))
-            }
-            Wrong::Free(column) => flip(blocks, column, |row| !before.binds_block(column, row)),
-        }
-    }
-}
-
-/// Makes one number wrong in the first row that suits.
-fn flip<'a>(
-    rows: impl Iterator<Item = (&'a mut Row, &'a [i16])>,
-    column: usize,
-    suits: impl Fn(&[i16]) -> bool,
-) -> bool {
-    let mut suitable = rows.filter(|(_, found)| suits(found));
-    suitable
-        .next()
-        .map(|(heard, _)| heard[column] ^= 1)
-        .is_some()
 }

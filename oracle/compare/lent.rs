@@ -10,7 +10,7 @@ use oracle::call::{Call, CALLS};
 use oracle::form::{edges, in_form};
 use oracle::listener::Said;
 use oracle::random::Random;
-use oracle::tables::{COUNT, RETAINED_HEAD, ROW_WIDTH};
+use oracle::tables::{COUNT, MARK, RETAINED_HEAD, ROW_WIDTH};
 
 pub const ROOM: u32 = 5;
 pub const FORM: u32 = 6;
@@ -106,10 +106,14 @@ fn refused_call(bench: &mut Bench, call: Call, trial: Trial) -> Result<(), Diffe
     bench.compare(Moment::Declined(call), Said::only(trial.number()), found)
 }
 
-/// One number that is looked at becomes another: near the edges of its range, or any.
+/// One number that is looked at, often a mark, becomes another: near the edges of its range, or any.
 fn spoil_form(table: &mut [i16], random: &mut Random) {
-    let looked_at = RETAINED_HEAD + table[COUNT] as usize * ROW_WIDTH;
-    let index = random.index(looked_at);
+    let rows = table[COUNT] as usize;
+    let index = if rows > 0 && random.once_in(4) {
+        RETAINED_HEAD + random.index(rows) * ROW_WIDTH + MARK
+    } else {
+        random.index(RETAINED_HEAD + rows * ROW_WIDTH)
+    };
     let any = random.next() as i16;
     let edge = random.pick(&edges());
     table[index] = random.pick(&[edge, edge, edge, any]);

@@ -21,6 +21,7 @@ mod events;
 mod falsify;
 mod heard_all;
 mod lent;
+mod mark_rule;
 mod proved;
 #[cfg(containers)]
 mod proved_container;
@@ -32,6 +33,7 @@ mod tally;
 mod view_cases;
 #[cfg(views)]
 mod views;
+mod wrong;
 
 use run::Run;
 

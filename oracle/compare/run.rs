@@ -6,6 +6,7 @@ use crate::difference::Difference;
 use crate::events::{drawn, Event};
 use crate::heard_all::HeardAll;
 use crate::lent;
+use crate::mark_rule::MarkRule;
 use crate::seen;
 use crate::tally::Tally;
 use oracle::answer::{Oracle, TRUNCATED};
@@ -33,6 +34,7 @@ pub struct Run {
     pub bench: Bench,
     pub all: HeardAll,
     pub appended: Appended,
+    pub mark_rule: MarkRule,
     pub tally: Tally,
     generator: Generator,
     random: Random,
@@ -47,6 +49,7 @@ impl Run {
             bench: Bench::new(listener),
             all: HeardAll::default(),
             appended: Appended::new(seed),
+            mark_rule: MarkRule::default(),
             tally: Tally::default(),
             generator: Generator::new(seed, Options::default()),
             random: Random::new(!seed),
@@ -90,11 +93,11 @@ impl Run {
                 self.bench.plant(&[0; RETAINED_LENGTH]);
                 self.go_on(seen::ZEROS)
             }
-            3 | 4 => {
+            3..=5 => {
                 self.plant(payloads);
                 self.go_on(seen::PLANTED)
             }
-            5..=7 => self.renew(Call::Reset, seen::RESET),
+            6..=8 => self.renew(Call::Reset, seen::RESET),
             _ => self.renew(Call::Start, seen::START),
         }
     }
@@ -158,9 +161,13 @@ impl Run {
     fn decode(&mut self, payload: &[u8]) -> Result<Expected, Difference> {
         let expected = self.bench.decode(payload)?;
         self.tally.count(&expected);
-        if expected.said.number == u32::from(TRUNCATED) {
+        let said = &expected.said;
+        if said.number == 0 {
+            let bench = &self.bench;
+            self.mark_rule.check(said, &bench.found, bench.warned)?;
+        } else if said.number == u32::from(TRUNCATED) {
             let seen = &mut self.tally.seen;
-            self.appended.check(payload, &expected.said, seen)?;
+            self.appended.check(payload, said, seen)?;
         }
         Ok(expected)
     }

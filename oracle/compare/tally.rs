@@ -6,13 +6,14 @@ use oracle::answer::TRUNCATED;
 use oracle::context;
 use oracle::listener::{Expected, Said};
 use oracle::orders::{Order, Position};
-use oracle::tables::{INFINITY, MARK, ROW_WIDTH};
+use oracle::tables::{ALL_SETTLED, INFINITY, MARK, ROW_WIDTH};
 use std::collections::{BTreeMap, BTreeSet};
 
 /// The least share of accepted payloads, in percent.
 const LEAST_ACCEPTED: u64 = 40;
 
 const DISTANCES: usize = INFINITY as usize + 1;
+const MARKS: usize = ALL_SETTLED as usize + 1;
 
 #[derive(Default)]
 pub struct Tally {
@@ -32,6 +33,8 @@ pub struct Tally {
     block_rows: u64,
     unsettled_start_rows: u64,
     unsettled_block_rows: u64,
+    /// Block rows by their mark.
+    marks: [u64; MARKS],
     unsettled_frames: u64,
     kinds_changed: u64,
     pub seen: Seen,
@@ -53,6 +56,9 @@ impl Tally {
         self.block_rows += u64::from(said.objects * said.blocks);
         self.unsettled_start_rows += unsettled(&expected.start);
         self.unsettled_block_rows += unsettled(&expected.blocks);
+        for mark in marks(&expected.blocks) {
+            self.marks[mark as usize] += 1;
+        }
         for order in &expected.orders {
             self.count_order(order);
         }
@@ -98,13 +104,7 @@ impl Tally {
         );
     }
 
-    pub fn print(&self) {
-        self.print_refusals();
-        let share = self.accepted * 100 / self.payloads.max(1);
-        println!(
-            "payloads {}, accepted {} ({share} %)",
-            self.payloads, self.accepted
-        );
+    fn print_orders(&self) {
         println!("gain codes 0 to 3: {:?}", self.gain_codes);
         println!(
             "basic statuses 0 to 3, past the first block: {:?}",
@@ -124,6 +124,9 @@ impl Tally {
             "distances 0 to {INFINITY}, differential: {:?}",
             self.differential
         );
+    }
+
+    fn print_rows(&self) {
         println!(
             "start rows {}, unsettled {}; block rows {}, unsettled {}; frames that end unsettled {}",
             self.start_rows,
@@ -132,6 +135,20 @@ impl Tally {
             self.unsettled_block_rows,
             self.unsettled_frames
         );
+        println!("marks 0 to {ALL_SETTLED}, block rows: {:?}", self.marks);
+        let seen = self.marks.iter().filter(|times| **times > 0).count();
+        println!("marks of block rows: {seen} of {MARKS} seen");
+    }
+
+    pub fn print(&self) {
+        self.print_refusals();
+        let share = self.accepted * 100 / self.payloads.max(1);
+        println!(
+            "payloads {}, accepted {} ({share} %)",
+            self.payloads, self.accepted
+        );
+        self.print_orders();
+        self.print_rows();
         println!("kinds changed {}", self.kinds_changed);
         self.seen.print();
         println!("differences {}", self.differences);
@@ -159,12 +176,19 @@ impl Tally {
         if distances.copied().any(|times| times == 0) {
             complaints.push("a distance never seen, absolute or differential".to_string());
         }
+        if self.marks.contains(&0) {
+            complaints.push("a mark never seen in a block row".to_string());
+        }
         let unseen = self.seen.unseen().into_iter();
         complaints.extend(unseen.map(|name| format!("never seen: {name}")));
         complaints
     }
 }
 
+fn marks(rows: &[i16]) -> impl Iterator<Item = i16> + '_ {
+    rows.chunks(ROW_WIDTH).map(|row| row[MARK])
+}
+
 fn unsettled(rows: &[i16]) -> u64 {
-    rows.chunks(ROW_WIDTH).filter(|row| row[MARK] == 0).count() as u64
+    marks(rows).filter(|&mark| mark != ALL_SETTLED).count() as u64
 }

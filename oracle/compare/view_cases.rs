@@ -1,6 +1,6 @@
 //! Timings, samples and rows for the calls on finished tables.
 
-use oracle::form::{edges, random_row};
+use oracle::form::{edges, random_shown_row};
 use oracle::random::Random;
 use oracle::tables::FRAME_LENGTH as FRAME;
 
@@ -57,10 +57,10 @@ pub fn drawn_sample(random: &mut Random, timings: &[u16]) -> u32 {
     }
 }
 
-/// A row in form, or one with another number in one place.
+/// A row that can be shown, or one with another number in one place.
 pub fn drawn_row(random: &mut Random) -> Vec<i16> {
     let kind = random.below(4) as i16;
-    let mut row = random_row(random, kind).to_vec();
+    let mut row = random_shown_row(random, kind).to_vec();
     if random.flag() {
         let at = random.index(row.len());
         let any = random.next() as i16;

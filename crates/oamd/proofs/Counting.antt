@@ -7,7 +7,7 @@ use native.Mathlib.Omega.{arith}
 use lib.IntN.{ℤ}
 use lib.ListN.{drop}
 use Rattle.standard.specs.Numbers.{rowWidth}
-use Rattle.standard.specs.Rows.{is}
+use Rattle.standard.specs.Marks.{isSettled}
 use Rattle.standard.specs.Meaning.{unsettledCount}
 use Rattle.standard.specs.Tables.{rowsOf}
 use Rattle.rows.specs.Places.{rowAt}
@@ -27,7 +27,7 @@ count-none l from n =
     let z : 0 + unsettledCount (rowsOf n (drop from l)) ≡ unsettledCount (rowsOf n (drop from l)) = omega arith in
     record { within = omega arith; few = omega arith; same = rw (e, f) z }
 
-one-at-most : (b : Bool) → cond b 1 0 ≤ 1
+one-at-most : (b : Bool) → cond b 0 1 ≤ 1
 one-at-most true = omega arith
 one-at-most false = omega arith
 
@@ -36,11 +36,11 @@ unfolding rowWidth
 next from i = omega arith
 
 module _ {l : List ℤ} {from n i u : ℕ} (c : Counting l from n i u) where
-  pub count-row : i < n → Counting l from n (i + 1) (u + cond (is 0 (rowAt l (from + i * rowWidth) .mark)) 1 0)
+  pub count-row : i < n → Counting l from n (i + 1) (u + cond (isSettled (rowAt l (from + i * rowWidth) .mark)) 0 1)
   unfolding unsettledCount
   count-row h =
-      let one : ℕ = cond (is 0 (rowAt l (from + i * rowWidth) .mark)) 1 0 in
-      let k = one-at-most (is 0 (rowAt l (from + i * rowWidth) .mark)) in
+      let one : ℕ = cond (isSettled (rowAt l (from + i * rowWidth) .mark)) 0 1 in
+      let k = one-at-most (isSettled (rowAt l (from + i * rowWidth) .mark)) in
       let rest : ℕ = unsettledCount (rowsOf (n - (i + 1)) (drop (from + (i + 1) * rowWidth) l)) in
       let e : n - i ≡ suc (n - (i + 1)) = omega arith in
       let f : from + i * rowWidth + rowWidth ≡ from + (i + 1) * rowWidth = next from i in

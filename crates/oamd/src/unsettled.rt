@@ -4,11 +4,11 @@ ghost use mathlib.Core.Bool.{cond};
 ghost use Prim.Native.Nat.{_+_, _*_, _≤_};
 ghost use lib.ListN.{length, drop};
 ghost use Rattle.standard.specs.Numbers.{rowWidth, objectLimit};
-ghost use Rattle.standard.specs.Rows.{is};
+ghost use Rattle.standard.specs.Marks.{isSettled};
 ghost use Rattle.standard.specs.Meaning.{unsettledCount};
 ghost use Rattle.standard.specs.Tables.{rowsOf};
 use rows::numbers::ROW_WIDTH;
-use rows::numbers::UNSETTLED;
+use rows::numbers::SETTLED;
 use rows::table::mark_at;
 
 pub fn count_unsettled(blocks: &[i16], from: usize, count: usize) -> u32
@@ -24,7 +24,7 @@ pub fn count_unsettled(blocks: &[i16], from: usize, count: usize) -> u32
 }
 
 fn one_if_unsettled(mark: i16) -> u32
-    ensures { λ r. ⌜ (r ≡ cond (is 0 mark) 1 0) × (r ≤ 1) ⌝ }
+    ensures { λ r. ⌜ (r ≡ cond (isSettled mark) 0 1) × (r ≤ 1) ⌝ }
 {
-    if mark == UNSETTLED { 1 } else { 0 }
+    if mark == SETTLED { 0 } else { 1 }
 }

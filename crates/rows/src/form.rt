@@ -19,6 +19,7 @@ use crate::numbers::SETTLED;
 use crate::numbers::SIDE_LIMIT;
 use crate::numbers::SILENCE;
 use crate::numbers::SIZE_LIMIT;
+use crate::numbers::UNSETTLED;
 use crate::numbers::ZONE_LIMIT;
 use crate::retained::count_of;
 use crate::row::DYNAMIC;
@@ -154,7 +155,7 @@ fn fixed_form(row: Row) -> bool
     is_default(row.picture)
 }
 
-// A row to be shown: a fixed kind has either mark.
+// A row to be shown: a fixed kind has any mark.
 pub fn shown_form(row: Row) -> bool
     ensures { λ r. ⌜ r ≡ shownForm (rowSaid row) ⌝ }
 {
@@ -163,20 +164,20 @@ pub fn shown_form(row: Row) -> bool
     let gain = gain_form(row.gain);
     let priority = within(0, PRIORITY_LIMIT, row.priority);
     let picture = picture_form(row.picture);
-    let mark = is_flag(row.mark);
+    let mark = within(UNSETTLED, SETTLED, row.mark);
     let active = active_form(row);
     let fixed = fixed_form(row);
     kind & flag & gain & priority & picture & mark & active & fixed
 }
 
-// A retained row: a fixed kind has mark 1.
+// A retained row: a fixed kind is settled.
 pub fn row_form(row: Row) -> bool
     ensures { λ r. ⌜ r ≡ rowForm (rowSaid row) ⌝ }
 {
     let shown = shown_form(row);
     let dynamic = row.kind == DYNAMIC;
-    let full = row.mark == SETTLED;
-    shown & (dynamic | full)
+    let settled = row.mark == SETTLED;
+    shown & (dynamic | settled)
 }
 
 fn rows_form(table: &[i16], count: usize) -> bool

@@ -77,10 +77,23 @@ pub const SILENCE: i16 = -128;
 // x and y of the default picture.
 pub const MIDDLE: i16 = 31;
 
-// The marks of a picture.
+// The marks of a row with no group settled, and with every one; and how many marks there are.
 pub const UNSETTLED: i16 = 0;
 
-pub const SETTLED: i16 = 1;
+pub const SETTLED: i16 = 31;
+
+pub const MARKS: u32 = 32;
+
+// A mark has a bit for each group of the picture.
+pub const POSITION_BIT: u32 = 1;
+
+pub const ZONE_BIT: u32 = 2;
+
+pub const SIZE_BIT: u32 = 4;
+
+pub const SCREEN_BIT: u32 = 8;
+
+pub const LOCK_BIT: u32 = 16;
 
 // The longest payload that is read, in bytes.
 pub const PAYLOAD_LIMIT: usize = 16384;

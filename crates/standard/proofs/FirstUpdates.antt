@@ -9,9 +9,10 @@ use Rattle.bits.proofs.Always.{Ok, Always, bind, after, next, choose, given, fr
 use Rattle.standard.specs.Contexts as context
 use Rattle.standard.specs.Tree.{Kind, isDynamic, Render, kept, Update, inactive, active, Object, Tree}
 use Rattle.standard.specs.Updates.{levels, parts, basic, absolutely, positionWord, groups, render, status, renderOf, activeUpdate, update, object}
-use Rattle.standard.specs.Marks.{isSome, isAbsolute, settles, settlesAll}
+use Rattle.standard.specs.Marks.{isSome, isAbsolute, settles}
 use Rattle.standard.specs.Meaning.{taken}
 use Rattle.standard.proofs.Small.{both}
+use Rattle.standard.proofs.MarkLaws.{settlesAll}
 use Rattle.standard.proofs.Payload.{InTree, in-objects}
 
 abbrev pub firstForm : Kind → Update → Bool
@@ -35,7 +36,7 @@ position-first = from-pure _ _ (bind _ (after _ _ λ x. after _ _ λ y. after _ 
 
 -- every group is said, and the position in full
 groups-first : Always (λ w. settlesAll (Render.given w) ≡ true) (groups true 15)
-unfolding groups isSet settles settlesAll
+unfolding groups isSet settles
 groups-first =
     from-some-such _ (at-place position-first) λ p h. from-some _ _ λ z. from-some _ _ λ n. from-some _ _ λ s. after _ _ λ l. given _ (rw h)
 

@@ -12,6 +12,7 @@ use Rattle.standard.specs.Tables.{gainForm, activeForm, fixedForm, rowFo
 use Rattle.standard.proofs.Small.{and-left, and-right, both, number-is, Pairs}
 use Rattle.standard.proofs.Starts.{start-each}
 use Rattle.standard.proofs.RowsOfFrame.{last-rows-have}
+use Rattle.standard.specs.Marks.{settled}
 use Rattle.standard.proofs.MarkLaws.{settled-form, doubted-form}
 use Rattle.standard.proofs.FirstUpdates.{TreeForm}
 use Rattle.standard.proofs.Payload.{InTree}
@@ -35,7 +36,7 @@ default-ok d k =
         gain = zero-form;
         priority = refl;
         picture = default-form;
-        mark = doubted-form d (pos 1) settled-form;
+        mark = doubted-form d settled settled-form;
         silent = refl;
         fixed = default-fixed k;
       });

@@ -11,9 +11,9 @@ use Rattle.bits.proofs.Always.{All}
 use Rattle.standard.specs.Tree.{Kind, lfe, bed, isf, dynamic, kindCode, kindNumber, isDynamic, Point, Position, GainWord, level, copied, PointWord, absolute, moved, PositionWord, Render, default, kept, given, Update, inactive, active}
 use Rattle.standard.specs.Numbers.{sideLimit, heightLimit, priorityLimit, silence}
 use Rattle.standard.specs.Rows.{Row, Picture, defaultPicture, is, isSilent}
-use Rattle.standard.specs.Marks.{rowMark}
+use Rattle.standard.specs.Marks.{isSettled, rowMark}
 use Rattle.standard.specs.Meaning.{orBefore, copiedGain, gainSaid, newGain, clamp, stepped, pointSaid, newPosition, newPicture, rowPicture, updated}
-use Rattle.standard.specs.Tables.{every, between, isFlag, isFull, markForm, gainForm, pointForm, pointTests, positionForm, sizeForm, zoneForm, pictureForm, pictureTests, isDefault, activeForm, fixedForm, shownTests, shownForm, rowForm}
+use Rattle.standard.specs.Tables.{every, between, isFlag, markForm, gainForm, pointForm, pointTests, positionForm, sizeForm, zoneForm, pictureForm, pictureTests, isDefault, activeForm, fixedForm, shownTests, shownForm, rowForm}
 use Rattle.standard.proofs.Small.{and-left, and-right, both}
 use Rattle.standard.proofs.MarkLaws.{row-mark-form}
 use Rattle.standard.proofs.Words.{IfSaid, GainOk, PriorityOk, PointOk, PositionOk, ZoneOk, SizeOk, FlagOk, RenderOk, UpdateOk}
@@ -132,7 +132,7 @@ fixed-picture bed r p h = h
 fixed-picture isf r p h = h
 fixed-picture dynamic r p h = refl
 
-fixed-mark : (k : Kind) (r : Render) (m : ℤ) → (is (kindCode dynamic) (pos (kindCode k)) || isFull (rowMark k r m)) ≡ true
+fixed-mark : (k : Kind) (r : Render) (m : ℤ) → (is (kindCode dynamic) (pos (kindCode k)) || isSettled (rowMark k r m)) ≡ true
 unfolding rowMark
 fixed-mark lfe r m = refl
 fixed-mark bed r m = refl
@@ -200,7 +200,7 @@ row-after k g (inactive at) r e hg hu h =
       gain = silence-form;
       priority = refl;
       picture = f .picture;
-      mark = row-mark-form k kept (r .mark) (f .mark);
+      mark = row-mark-form k kept (r .mark);
       silent = refl;
       fixed = rw e at (f .fixed);
     }))
@@ -214,7 +214,7 @@ row-after k g (active b n) r e hg hu h =
       gain = gain-after g (b .gain) (r .gain) hg (hu .0 .gain) (f .gain);
       priority = or-ok PriorityOk (b .priority) (r .priority) (hu .0 .priority) (f .priority);
       picture = row-picture k n (r .picture) (hu .1) (f .picture);
-      mark = row-mark-form k n (r .mark) (f .mark);
+      mark = row-mark-form k n (r .mark);
       silent = refl;
       fixed = fixed-picture k n (r .picture) (rw e at (f .fixed));
     }))

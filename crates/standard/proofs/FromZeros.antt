@@ -56,14 +56,14 @@ zeros-begun n h = ap (withRetained (zeroTables n)) (start-of-zeros (n .retained)
 
 -- Demand 3 where each call is lent what the last one left, and the first ones all zeros,
 pub demand3-from-zeros : (n k : Lengths) (es : List Event) (s : List ℕ) → Sufficient n → Sufficient k → goneAstray es ≡ false
-    → CallsAgree (decode s (run firstCall (zeroTables n) es)) (decode s (run secondCall (zeroTables k) es))
+    → CallsAgree s (run firstCall (zeroTables n) es) (run secondCall (zeroTables k) es)
 demand3-from-zeros n k es s h i a =
     rw (zeros-begun n h, zeros-begun k i) at (demand3-threaded (zeroTables n) (zeroTables k) es s (zeros-roomy n h) (zeros-roomy k i) a)
 
 -- and where at each event each side lends frame tables of its own, and retained tables that were all zeros at first.
 pub demand3-turns-from-zeros : (b c : Beside) (n k : ℕ) (ts : List Turn) (s : List ℕ) → Enough b → Enough c → All FirstRoomy ts → All SecondRoomy ts
     → retainedLength ≤ n → retainedLength ≤ k → goneAstray (events ts) ≡ false
-    → CallsAgree (decode s (lend b (run firstTurn (replicate n (pos 0)) ts))) (decode s (lend c (run secondTurn (replicate k (pos 0)) ts)))
+    → CallsAgree s (lend b (run firstTurn (replicate n (pos 0)) ts)) (lend c (run secondTurn (replicate k (pos 0)) ts))
 demand3-turns-from-zeros b c n k ts s hb hc x y h i a =
     rw (start-of-zeros n h, start-of-zeros k i) at
     (demand3-turns b c (replicate n (pos 0)) (replicate k (pos 0)) ts s hb hc x y (filled retainedLength n (pos 0) h) (filled retainedLength k (pos 0) i) a)

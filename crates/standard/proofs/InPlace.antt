@@ -3,7 +3,7 @@ use Prim.Native.Nat.{ℕ}
 use mathlib.Core.Path.{_≡_, refl}
 use mathlib.Core.Bool.{true, false, false≢true}
 use mathlib.Core.List.{List, [], _∷_}
-use Rattle.standard.specs.Calls.{Lent, decode}
+use Rattle.standard.specs.Calls.{Lent}
 use Rattle.standard.specs.Events.{Event, starts, heard, missed, warns, warnsBoth, run, Following, abreast, warned, astray, follow, isAstray, goneAstray, inPlace, firstCall, secondCall}
 use Rattle.standard.proofs.OnCalls.{CallsAgree}
 use Rattle.standard.proofs.Threaded.{Roomy, begun, demand3-threaded}
@@ -34,5 +34,5 @@ in-place-follows es p = never-astray abreast es refl p
 
 -- and a payload that both hear after it finds them in agreement.
 pub demand3-in-place : (l m : Lent) (es : List Event) (s : List ℕ) → Roomy l → Roomy m → inPlace es ≡ true
-    → CallsAgree (decode s (run firstCall (begun l) es)) (decode s (run secondCall (begun m) es))
+    → CallsAgree s (run firstCall (begun l) es) (run secondCall (begun m) es)
 demand3-in-place l m es s b c p = demand3-threaded l m es s b c (in-place-follows es p)

@@ -1,12 +1,12 @@
 pub mod cases
 pub mod Small
 pub mod Payload
+pub mod MarkLaws
 pub mod FirstUpdates
 pub mod Words
 pub mod Counts
 pub mod Starts
 pub mod RowsOfFrame
-pub mod MarkLaws
 pub mod Agreement
 pub mod Related
 pub mod Demand3
@@ -26,6 +26,7 @@ pub mod LongerPayload
 pub mod Tabled
 pub mod OnCalls
 pub mod MarksOnCalls
+pub mod Rising
 pub mod Threaded
 pub mod FromZeros
 pub mod InPlace

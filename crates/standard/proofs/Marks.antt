@@ -8,14 +8,14 @@ use Rattle.bits.specs.Parsed.{Parsed, got, refused}
 use Rattle.bits.proofs.Always.{Ok, All}
 use Rattle.standard.specs.Tree.{Kind, lfe, bed, isf, dynamic, kindNumber, isDynamic, Render, kept, Update, inactive, active, Object, Tree, kindsOf}
 use Rattle.standard.specs.Rows.{Row, State, fresh, noRow, is}
-use Rattle.standard.specs.Marks.{settled, newMark, settlesAll, isSome, rowMark}
+use Rattle.standard.specs.Marks.{settled, newMark, isSome, rowMark}
 use Rattle.standard.specs.Meaning.{defaultRow, heldRow, startRows, updated, objectRows, allRows, gainOf, frameRows, lastRows, retain, retainIf, taken, decoded, unsettledCount}
 use Rattle.standard.specs.Tables.{inBlock}
 use Rattle.standard.specs.Events.{Event, starts, heard, missed, warns, warnsBoth, run, secondGets, stateAfter, second}
 use Rattle.standard.proofs.Small.{and-right, nought-differs, Pairs}
 use Rattle.standard.proofs.Starts.{start-each}
 use Rattle.standard.proofs.RowsOfFrame.{last-rows-have}
-use Rattle.standard.proofs.MarkLaws.{mark-stays, mark-all}
+use Rattle.standard.proofs.MarkLaws.{settlesAll, mark-stays, mark-all}
 use Rattle.standard.proofs.FirstUpdates.{firstForm, FirstIn, ObjectForm, TreeForm, first-block}
 
 abbrev pub Marked : Row → Type 0

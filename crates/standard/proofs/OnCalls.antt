@@ -87,20 +87,24 @@ alike b c l m s hb hc g h =
 
 -- Demand 3
 
-abbrev pub CallsAgree : Done → Done → Type 0
-CallsAgree x y = CallsMeet StartAgree RowAgree x y
+-- two calls on one payload, by what is lent to the first and to the second; the second decodes by f
+abbrev pub AgreesBy : (List ℕ → Lent → Done) → List ℕ → Lent → Lent → Type 0
+AgreesBy f s x y = CallsMeet (StartAgree (stateOf (y .retained) .doubt)) RowAgree (decode s x) (f s y)
+
+abbrev pub CallsAgree : List ℕ → Lent → Lent → Type 0
+CallsAgree s x y = AgreesBy decode s x y
 
 -- Two tables stand for what the two decoders keep after one programme, and a payload comes that both hear. The second has not gone astray.
 pub demand3-calls : (b c : Beside) (l m : List ℤ) (es : List Event) (s : List ℕ) → Enough b → Enough c → Holds l (run first fresh es) → Holds m (run second fresh es)
-    → goneAstray es ≡ false → CallsAgree (decode s (lend b l)) (decode s (lend c m))
+    → goneAstray es ≡ false → CallsAgree s (lend b l) (lend c m)
 demand3-calls b c l m es s hb hc x y a =
-    calls-meet StartAgree RowAgree (Agreement (stateOf l) (stateOf m)) s (rw (x .state, y .state) (demand3 es s a)) b c l m hb hc (x .good) (y .good) nothing-agrees
+    calls-meet (StartAgree (stateOf m .doubt)) RowAgree (Agreement (stateOf l) (stateOf m)) s (rw (x .state, y .state) (demand3 es s a)) b c l m hb hc (x .good) (y .good) nothing-agrees
     (λ t h. h .starts) (λ t h. h .blocks)
 
 -- So it is where both begin with programme start, whatever was retained before, and at each event each side lends frame tables of its own.
 pub demand3-turns : (b c : Beside) (l m : List ℤ) (ts : List Turn) (s : List ℕ) → Enough b → Enough c → All FirstRoomy ts → All SecondRoomy ts
     → leb retainedLength (length l) ≡ true → leb retainedLength (length m) ≡ true → goneAstray (events ts) ≡ false
-    → CallsAgree (decode s (lend b (run firstTurn (programmeStart l .retained) ts))) (decode s (lend c (run secondTurn (programmeStart m .retained) ts)))
+    → CallsAgree s (lend b (run firstTurn (programmeStart l .retained) ts)) (lend c (run secondTurn (programmeStart m .retained) ts))
 demand3-turns b c l m ts s hb hc n k hl hm a =
     demand3-calls b c (run firstTurn (programmeStart l .retained) ts) (run secondTurn (programmeStart m .retained) ts) (events ts) s hb hc
     (first-run (programmeStart l .retained) ts n (start-holds l hl)) (second-run (programmeStart m .retained) ts k (start-holds m hm)) a

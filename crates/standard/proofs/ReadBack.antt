@@ -1,11 +1,14 @@
 -- What an accepted payload leaves in the frame tables, read back.
-use Prim.Native.Nat.{ℕ, zero, suc, _*_, _<_}
+use Prim.Native.Nat.{ℕ, zero, suc, _+_, _*_, _<_}
 use mathlib.Core.Path.{_≡_, _∙_, ap}
-use mathlib.Core.List.{List, [], _∷_, append-assoc, map}
+use mathlib.Core.List.{List, [], _∷_, _++_, append-assoc, map}
+use native.Mathlib.Nat.{zero-mul, suc-mul, add-mul}
 use native.Mathlib.Omega.{arith}
 use lib.IntN.{ℤ}
 use lib.ListN.{length, getD, drop, length-map}
+use lib.Seq.{drop-append-add}
 use Rattle.bits.proofs.Always.{All, all-to}
+use Rattle.standard.specs.Numbers.{rowWidth}
 use Rattle.standard.specs.Tree.{Object, Tree, kindsOf}
 use Rattle.standard.specs.Rows.{Row, State, noRow}
 use Rattle.standard.specs.Meaning.{startRows, objectRows, allRows, gainOf, frameRows}
@@ -14,7 +17,7 @@ use Rattle.standard.specs.Calls.{Lent, over, accept}
 use Rattle.standard.proofs.Starts.{start-length}
 use Rattle.standard.proofs.RowsOfFrame.{object-rows-length, frame-rows-length}
 use Rattle.standard.proofs.ByBlock.{blocks-length, blocks-all}
-use Rattle.standard.proofs.Laid.{rows-back, rows-append, timings-back}
+use Rattle.standard.proofs.Laid.{rows-back, rows-length, rows-append, timings-back}
 use Rattle.standard.proofs.Counts.{Sized}
 
 -- as many rows as there are objects, and as many again for each block
@@ -38,22 +41,38 @@ pub blocks-written : (l : Lent) (st : State) (t : Tree) → rowsOf (length (t .t
 unfolding accept
 blocks-written l st t = rows-written (blockRows st t) (l .blocks) (length (t .timings) * length (t .objects)) (blocks-count st t)
 
+-- block by block
+pub block-written : (l : Lent) (st : State) (t : Tree) (b : ℕ) → b < length (t .timings)
+    → rowsOf (length (t .objects)) (drop (b * length (t .objects) * rowWidth) (accept l st t .lent .blocks)) ≡ inBlock b (frameRows st t)
+unfolding accept byBlock
+block-written l st t b h = go (length (t .timings)) 0 b b h (omega arith) _
+  where
+    rows : ℕ → List Row
+    rows c = inBlock c (frameRows st t)
+
+    n : ℕ
+    n = length (t .objects)
+
+    count : (c : ℕ) → length (rows c) ≡ n
+    count c = length-map (frameRows st t) (λ (r : List Row). getD r c noRow) ∙ frame-rows-length st t
+
+    -- of the blocks from c on
+    go : (m c b d : ℕ) → b < m → d ≡ c + b → (z : List ℤ) → rowsOf n (drop (b * n * rowWidth) (rowsNumbers (byBlock m c (frameRows st t)) ++ z)) ≡ rows d
+    go zero c b d k e z = absurd (omega arith)
+    go (suc m) c zero d k e z =
+        let later = byBlock m (suc c) (frameRows st t) in
+        let here : d ≡ c = omega arith in
+        rw (here, zero-mul n, zero-mul rowWidth, ← count c, rows-append (rows c) later, append-assoc (rowsNumbers (rows c)) (rowsNumbers later) z) (rows-back (rows c) _)
+    go (suc m) c (suc b) d k e z =
+        let later = byBlock m (suc c) (frameRows st t) in
+        let long : length (rowsNumbers (rows c)) ≡ n * rowWidth = rows-length (rows c) ∙ ap (λ k. k * rowWidth) (count c) in
+        let past : suc b * n * rowWidth ≡ length (rowsNumbers (rows c)) + b * n * rowWidth = rw (long, suc-mul b n, add-mul (b * n) n rowWidth) (omega arith) in
+        rw (past, rows-append (rows c) later, append-assoc (rowsNumbers (rows c)) (rowsNumbers later) z, drop-append-add (rowsNumbers (rows c)) (rowsNumbers later ++ z) (b * n * rowWidth))
+        (go m (suc c) b d (omega arith) (omega arith) z)
+
 -- the rows of the first block stand first
 pub first-written : (l : Lent) (st : State) (t : Tree) → 0 < length (t .timings) → rowsOf (length (t .objects)) (accept l st t .lent .blocks) ≡ inBlock 0 (frameRows st t)
-unfolding accept byBlock
-first-written l st t h = go (length (t .timings)) h
-  where
-    rows : List Row
-    rows = inBlock 0 (frameRows st t)
-
-    count : length rows ≡ length (t .objects)
-    count = length-map (frameRows st t) (λ (r : List Row). getD r 0 noRow) ∙ frame-rows-length st t
-
-    go : (m : ℕ) → 0 < m → rowsOf (length (t .objects)) (over (rowsNumbers (byBlock m 0 (frameRows st t))) (l .blocks)) ≡ rows
-    go zero k = absurd (omega arith)
-    go (suc m) k =
-        let later = byBlock m 1 (frameRows st t) in
-        rw (← count, rows-append rows later, append-assoc (rowsNumbers rows) (rowsNumbers later) _) (rows-back rows _)
+first-written l st t h = rw (zero-mul (length (t .objects)), zero-mul rowWidth) at (block-written l st t 0 h)
 
 pub timings-written : (l : Lent) (st : State) (t : Tree) → timingsOf (length (t .timings)) (accept l st t .lent .timings) ≡ t .timings
 unfolding accept

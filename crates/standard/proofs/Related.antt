@@ -7,14 +7,14 @@ use lib.ListN.{getD, drop}
 use Rattle.bits.specs.Parsed.{Parsed, got, refused}
 use Rattle.bits.proofs.Always.{Ok, All}
 use Rattle.standard.specs.Tree.{Kind, lfe, bed, isf, dynamic, kindCode, isDynamic, Update, inactive, active, Object, Tree, kindsOf}
-use Rattle.standard.specs.Rows.{Row, State, fresh, defaultPicture, noRow, is}
-use Rattle.standard.specs.Marks.{settled, unsettled, marked}
+use Rattle.standard.specs.Rows.{Row, State, Group, fresh, defaultPicture, noRow, is}
+use Rattle.standard.specs.Marks.{unsettled, marked}
 use Rattle.standard.specs.Meaning.{defaultRow, heldRow, sameKinds, startRows, rowPicture, updated, objectRows, allRows, gainOf, frameRows, lastRow, lastRows, retain, retainIf}
 use Rattle.standard.specs.Events.{starts}
 use Rattle.standard.proofs.Small.{number-is, Pairs}
 use Rattle.standard.proofs.Starts.{start-each, start-any}
 use Rattle.standard.proofs.RowsOfFrame.{last-rows-have}
-use Rattle.standard.proofs.MarkLaws.{mark-none, none-differs}
+use Rattle.standard.proofs.MarkLaws.{mark-none}
 use Rattle.standard.proofs.FirstUpdates.{TreeForm}
 use Rattle.standard.proofs.Agreement.{Same, Settled, Close, Starts, RowAgree, frames-agree, frames-same}
 
@@ -48,10 +48,11 @@ start-fixed st ks =
 
 -- Start rows
 
--- what demand 3 says of a frame-start row
-pub record StartAgree (a b : Row) : Type 0 where
+-- what demand 3 says of a frame-start row; d: the second's doubt
+pub record StartAgree (d : ℤ) (a b : Row) : Type 0 where
   pub kind : a .kind ≡ b .kind
-  pub same : b .mark ≡ settled → Same a b
+  pub same : is 0 d ≡ true → Same a b
+  pub calm : (g : Group) → marked g (b .mark) ≡ true → is 0 d ≡ true  -- a bit that is set says that no doubt stood
   pub picture : Settled a b
 
 -- the rows agree unless there is doubt
@@ -71,7 +72,7 @@ kinds-agree (k ∷ ks) [] (y ∷ ys) h = absurd h
 kinds-agree (k ∷ ks) (x ∷ xs) [] h = absurd h
 kinds-agree (k ∷ ks) (x ∷ xs) (y ∷ ys) h = λ i. is (kindCode k) (h .0 .same .kind i) && kinds-agree ks xs ys (h .1) i
 
-held-agree : (d d′ : ℤ) → is 0 d′ ≡ true → (xs ys : List Row) → Pairs RowAgree xs ys → Pairs StartAgree (map (heldRow d) xs) (map (heldRow d′) ys)
+held-agree : (d d′ : ℤ) → is 0 d′ ≡ true → (xs ys : List Row) → Pairs RowAgree xs ys → Pairs (StartAgree d′) (map (heldRow d) xs) (map (heldRow d′) ys)
 unfolding heldRow
 held-agree d d′ e [] [] h = tt
 held-agree d d′ e [] (y ∷ ys) h = absurd h
@@ -80,69 +81,77 @@ held-agree d d′ e (x ∷ xs) (y ∷ ys) h =
     let s = h .0 .same in (
       record {
         kind = s .kind;
-        same = λ m. record { kind = s .kind; active = s .active; gain = s .gain; priority = s .priority };
+        same = λ c. record { kind = s .kind; active = s .active; gain = s .gain; priority = s .priority };
+        calm = λ g m. e;
         picture = λ g m. h .0 .picture g (rw e at m);
       },
       held-agree d d′ e xs ys (h .1),
     )
 
-default-agree : (d d′ : ℤ) (ks : List Kind) → Pairs StartAgree (map (defaultRow d) ks) (map (defaultRow d′) ks)
+default-agree : (d d′ : ℤ) → is 0 d′ ≡ true → (ks : List Kind) → Pairs (StartAgree d′) (map (defaultRow d) ks) (map (defaultRow d′) ks)
 unfolding defaultRow
-default-agree d d′ [] = tt
-default-agree d d′ (k ∷ ks) =
-    (record { kind = refl; same = λ m. record { kind = refl; active = refl; gain = refl; priority = refl }; picture = λ g m. refl }, default-agree d d′ ks)
+default-agree d d′ e [] = tt
+default-agree d d′ e (k ∷ ks) = (
+  record { kind = refl; same = λ c. record { kind = refl; active = refl; gain = refl; priority = refl }; calm = λ g m. e; picture = λ g m. refl },
+  default-agree d d′ e ks,
+)
 
-calm-starts : (a b : State) (ks : List Kind) → Related a b → is 0 (b .doubt) ≡ true → Pairs StartAgree (startRows a ks) (startRows b ks)
+calm-starts : (a b : State) (ks : List Kind) → Related a b → is 0 (b .doubt) ≡ true → Pairs (StartAgree (b .doubt)) (startRows a ks) (startRows b ks)
 unfolding startRows
 calm-starts a b ks r e = rw (← kinds-agree ks (a .rows) (b .rows) (r .rows e)) (go (sameKinds ks (a .rows)))
   where
-    go : (c : Bool) → Pairs StartAgree (cond c (map (heldRow (a .doubt)) (a .rows)) (map (defaultRow (a .doubt)) ks)) (cond c (map (heldRow (b .doubt)) (b .rows)) (map (defaultRow (b .doubt)) ks))
+    go : (c : Bool) → Pairs (StartAgree (b .doubt)) (cond c (map (heldRow (a .doubt)) (a .rows)) (map (defaultRow (a .doubt)) ks)) (cond c (map (heldRow (b .doubt)) (b .rows)) (map (defaultRow (b .doubt)) ks))
     go true = held-agree (a .doubt) (b .doubt) e (a .rows) (b .rows) (r .rows e)
-    go false = default-agree (a .doubt) (b .doubt) ks
+    go false = default-agree (a .doubt) (b .doubt) e ks
 
 -- in doubt no start row is settled
 start-doubt : (st : State) (ks : List Kind) → is 0 (st .doubt) ≡ false → All Fixed (st .rows) → Pairs (λ k r. r .mark ≡ unsettled) ks (startRows st ks)
 unfolding defaultRow heldRow
 start-doubt st ks d = start-each Fixed (λ k r. r .mark ≡ unsettled) st ks (λ k. rw d) (λ k r e f. rw d)
 
-doubt-agree : (ks : List Kind) (xs ys : List Row) → Pairs FixedAt ks xs → Pairs FixedAt ks ys → Pairs (λ k r. r .mark ≡ unsettled) ks ys → Pairs StartAgree xs ys
-doubt-agree [] [] [] f g h = tt
-doubt-agree [] [] (y ∷ ys) f g h = absurd g
-doubt-agree [] (x ∷ xs) ys f g h = absurd f
-doubt-agree (k ∷ ks) [] ys f g h = absurd f
-doubt-agree (k ∷ ks) (x ∷ xs) [] f g h = absurd g
-doubt-agree (k ∷ ks) (x ∷ xs) (y ∷ ys) f g h = (
+unmarked : (m : ℤ) (g : Group) → m ≡ unsettled → marked g m ≡ true → ⊥
+unmarked m g e h = false≢true (sym (mark-none g) ∙ ap (marked g) (sym e) ∙ h)
+
+doubt-agree : (d : ℤ) → is 0 d ≡ false → (ks : List Kind) (xs ys : List Row) → Pairs FixedAt ks xs → Pairs FixedAt ks ys → Pairs (λ k r. r .mark ≡ unsettled) ks ys
+    → Pairs (StartAgree d) xs ys
+doubt-agree d e [] [] [] f g h = tt
+doubt-agree d e [] [] (y ∷ ys) f g h = absurd g
+doubt-agree d e [] (x ∷ xs) ys f g h = absurd f
+doubt-agree d e (k ∷ ks) [] ys f g h = absurd f
+doubt-agree d e (k ∷ ks) (x ∷ xs) [] f g h = absurd g
+doubt-agree d e (k ∷ ks) (x ∷ xs) (y ∷ ys) f g h = (
   record {
     kind = f .0 .kind ∙ sym (g .0 .kind);
-    same = λ m. absurd (none-differs (sym (h .0) ∙ m));
-    picture = λ i m. absurd (false≢true (sym (mark-none i) ∙ ap (marked i) (sym (h .0)) ∙ m));
+    same = λ c. absurd (false≢true (sym e ∙ c));
+    calm = λ i m. absurd (unmarked (y .mark) i (h .0) m);
+    picture = λ i m. absurd (unmarked (y .mark) i (h .0) m);
   },
-  doubt-agree ks xs ys (f .1) (g .1) (h .1),
+  doubt-agree d e ks xs ys (f .1) (g .1) (h .1),
 )
 
-pub starts-agree : (a b : State) (ks : List Kind) → Related a b → Pairs StartAgree (startRows a ks) (startRows b ks)
+pub starts-agree : (a b : State) (ks : List Kind) → Related a b → Pairs (StartAgree (b .doubt)) (startRows a ks) (startRows b ks)
 starts-agree a b ks r = go (is 0 (b .doubt)) refl
   where
-    go : (c : Bool) → is 0 (b .doubt) ≡ c → Pairs StartAgree (startRows a ks) (startRows b ks)
+    go : (c : Bool) → is 0 (b .doubt) ≡ c → Pairs (StartAgree (b .doubt)) (startRows a ks) (startRows b ks)
     go true e = calm-starts a b ks r e
-    go false e = doubt-agree ks (startRows a ks) (startRows b ks) (start-fixed a ks (r .fixed₁)) (start-fixed b ks (r .fixed₂)) (start-doubt b ks e (r .fixed₂))
+    go false e = doubt-agree (b .doubt) e ks (startRows a ks) (startRows b ks) (start-fixed a ks (r .fixed₁)) (start-fixed b ks (r .fixed₂)) (start-doubt b ks e (r .fixed₂))
 
 -- Block rows
 
-starts-close : (os : List Object) (xs ys : List Row) → let ks = map (λ (o : Object). o .kind) os in
-    Pairs FixedAt ks xs → Pairs FixedAt ks ys → Pairs StartAgree xs ys → Starts Close os xs ys
-starts-close [] xs ys f g h = tt
-starts-close (o ∷ os) [] ys f g h = absurd f
-starts-close (o ∷ os) (x ∷ xs) [] f g h = absurd g
-starts-close (o ∷ os) (x ∷ xs) (y ∷ ys) f g h =
-    (record { settled = h .0 .picture; fixed = λ e. f .0 .picture e ∙ sym (g .0 .picture e) }, starts-close os xs ys (f .1) (g .1) (h .1))
+starts-close : (d : ℤ) (os : List Object) (xs ys : List Row) → let ks = map (λ (o : Object). o .kind) os in
+    Pairs FixedAt ks xs → Pairs FixedAt ks ys → Pairs (StartAgree d) xs ys → Starts Close os xs ys
+starts-close d [] xs ys f g h = tt
+starts-close d (o ∷ os) [] ys f g h = absurd f
+starts-close d (o ∷ os) (x ∷ xs) [] f g h = absurd g
+starts-close d (o ∷ os) (x ∷ xs) (y ∷ ys) f g h =
+    (record { settled = h .0 .picture; fixed = λ e. f .0 .picture e ∙ sym (g .0 .picture e) }, starts-close d os xs ys (f .1) (g .1) (h .1))
 
 pub blocks-agree : (a b : State) (t : Tree) → Related a b → TreeForm t → Pairs (Pairs RowAgree) (frameRows a t) (frameRows b t)
 unfolding frameRows
 blocks-agree a b t r f =
     let ks = kindsOf t in
     frames-agree (t .objects) (startRows a ks) (startRows b ks) f
-    (starts-close (t .objects) (startRows a ks) (startRows b ks) (start-fixed a ks (r .fixed₁)) (start-fixed b ks (r .fixed₂)) (starts-agree a b ks r))
+    (starts-close (b .doubt) (t .objects) (startRows a ks) (startRows b ks) (start-fixed a ks (r .fixed₁)) (start-fixed b ks (r .fixed₂)) (starts-agree a b ks r))
 
 -- Whatever the two retained
 
@@ -241,7 +250,7 @@ fresh-related = record { fixed₁ = tt; fixed₂ = tt; rows = λ e. tt }
 
 -- what agrees where a payload that says t meets the states a and b
 pub record Agreement (a b : State) (t : Tree) : Type 0 where
-  pub starts : Pairs StartAgree (startRows a (kindsOf t)) (startRows b (kindsOf t))
+  pub starts : Pairs (StartAgree (b .doubt)) (startRows a (kindsOf t)) (startRows b (kindsOf t))
   pub blocks : Pairs (Pairs RowAgree) (frameRows a t) (frameRows b t)
 
 pub agreed : (a b : State) (p : Parsed Tree) → Ok TreeForm p → Related a b → Ok (Agreement a b) p

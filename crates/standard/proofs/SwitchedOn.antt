@@ -3,7 +3,7 @@ use Prim.Native.Nat.{ℕ}
 use mathlib.Core.Path.{_≡_, refl, _∙_, ap}
 use mathlib.Core.Bool.{false}
 use mathlib.Core.List.{List, [], _∷_, _++_, map}
-use Rattle.standard.specs.Calls.{Lent, decode}
+use Rattle.standard.specs.Calls.{Lent}
 use Rattle.standard.specs.Journal.{resetNotice, withRetained, replyTo}
 use Rattle.standard.specs.Events.{ofReset, Event, missed, warns, run, Following, abreast, warned, follow, isAstray, after, warningOf, firstGets, secondGets, firstCall, secondCall}
 use Rattle.standard.proofs.OnCalls.{CallsAgree}
@@ -37,7 +37,7 @@ reset-begun l = ap (withRetained l) (reset-again (l .retained))
 -- One decoder begins with programme start and hears these payloads. Then a rack is switched on, with anything in its tables, and reset. Both
 -- go on with one programme, and a payload that both hear finds them in agreement, unless the rack has gone astray since.
 pub switched-on : (l m : Lent) (ss : List (List ℕ)) (es : List Event) (s : List ℕ) → Roomy l → Roomy m → isAstray (run follow warned es) ≡ false
-    → CallsAgree (decode s (run firstCall (begun l) (map missed ss ++ es))) (decode s (run secondCall (after m resetNotice) es))
+    → CallsAgree s (run firstCall (begun l) (map missed ss ++ es)) (run secondCall (after m resetNotice) es)
 switched-on l m ss es s b c a =
     rw (first-heard (begun l) ss es, second-was-away (begun m) ss es, reset-begun m) at
     (demand3-threaded l m (away ss es) s b c (ap isAstray (warned-by-it abreast ss es) ∙ a))

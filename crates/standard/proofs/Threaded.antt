@@ -79,7 +79,7 @@ alike-threaded l m es s b c =
 
 -- and so is the rest unless the second marks it unsettled, if the second has not gone astray.
 pub demand3-threaded : (l m : Lent) (es : List Event) (s : List ℕ) → Roomy l → Roomy m → goneAstray es ≡ false
-    → CallsAgree (decode s (run firstCall (begun l) es)) (decode s (run secondCall (begun m) es))
+    → CallsAgree s (run firstCall (begun l) es) (run secondCall (begun m) es)
 demand3-threaded l m es s b c a =
     demand3-calls (beside (run firstCall (begun l) es)) (beside (run secondCall (begun m) es)) (run firstCall (begun l) es .retained) (run secondCall (begun m) es .retained) es s
     (first-enough l es b) (second-enough m es c) (first-threaded l es b) (second-threaded m es c) a

@@ -13,4 +13,5 @@ pub mod JournalCases
 pub mod ContainerCases
 pub mod ShownValues
 pub mod WrongDecoders
+pub mod Rejoining
 pub mod Astray

@@ -145,7 +145,7 @@ benchCases =
     refuses [] [] 1 1 0 2
     ∷ refuses [] (0x40 ∷ []) 4 1 0 0
     ∷ refuses [] (0x01 ∷ 0x00 ∷ []) 2 18 16 0
-    ∷ accepts [] (headOfA ++ 0x00 ∷ []) 1 1 0 (plainRow (pos 3) (pos 1) (pos 0) (pos 32) (pos 31) (pos 31) (pos 0) (pos 1) ∷ []) (inactiveRow (pos 31) (pos 31) (pos 0) (pos 1) ∷ []) (0 ∷ 0 ∷ [])
+    ∷ accepts [] (headOfA ++ 0x00 ∷ []) 1 1 0 (plainRow (pos 3) (pos 1) (pos 0) (pos 32) (pos 31) (pos 31) (pos 0) (pos 31) ∷ []) (inactiveRow (pos 31) (pos 31) (pos 0) (pos 31) ∷ []) (0 ∷ 0 ∷ [])
     ∷ refuses [] headOfA 1 11 23 7
     ∷ refuses [] (headOfA ++ 0x01 ∷ []) 2 17 47 0
     ∷ refuses [] (headOfA ++ 0x02 ∷ []) 2 16 46 0

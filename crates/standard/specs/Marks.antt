@@ -1,25 +1,50 @@
 -- The specification, section 9, "Marks and doubt": what settles a group of the picture, and what a mark says.
-use mathlib.Core.Bool.{Bool, true, false, cond, _&&_}
+use Prim.Native.Nat.{ℕ, _+_, _/_, _%_}
+use mathlib.Core.Bool.{Bool, true, false, cond, _||_}
 use mathlib.Core.Option.{Option, none, some}
-use lib.IntN.{ℤ, pos}
+use lib.Dec.{eqb}
+use lib.IntN.{ℤ, pos, negsuc}
 use Rattle.bits.specs.Parsed.{Placed}
+use Rattle.standard.specs.Numbers.{markLimit}
 use Rattle.standard.specs.Tree.{Kind, isDynamic, PointWord, absolute, moved, PositionWord, Render, default, kept, given}
 use Rattle.standard.specs.Rows.{Group, itsPosition, itsZone, itsSize, itsScreen, itsLock, is}
 
--- the marks of a settled and of an unsettled picture
+-- The marks of a row with every group settled, and with none
+
 abbrev pub settled : ℤ
-settled = pos 1
+settled = pos markLimit
 
 abbrev pub unsettled : ℤ
 unsettled = pos 0
 
--- whether a group is settled under a mark: one mark is for the whole picture
+abbrev pub isSettled : ℤ → Bool
+isSettled m = is markLimit m
+
+-- A mark has a bit for each group
+
+abbrev pub bitOf : Group → ℕ
+bitOf itsPosition = 1
+bitOf itsZone = 2
+bitOf itsSize = 4
+bitOf itsScreen = 8
+bitOf itsLock = 16
+
+-- whether a group is settled under a mark; a number below 0 is none
 unfoldable pub marked : Group → ℤ → Bool
-marked g m = is 1 m
+marked g (pos n) = eqb (n / bitOf g % 2) 1
+marked g (negsuc n) = false
+
+-- the bits of these groups
+unfoldable pub bitsOf : (Group → Bool) → ℕ
+bitsOf s =
+    cond (s itsPosition) (bitOf itsPosition) 0 + cond (s itsZone) (bitOf itsZone) 0 + cond (s itsSize) (bitOf itsSize) 0
+    + cond (s itsScreen) (bitOf itsScreen) 0 + cond (s itsLock) (bitOf itsLock) 0
 
 -- the mark m, or none in doubt
 abbrev pub doubted : ℤ → ℤ → ℤ
 doubted d m = cond (is 0 d) m unsettled
+
+-- What settles a group
 
 module _ {A : Type 0} where
   abbrev pub isSome : Option A → Bool
@@ -44,12 +69,9 @@ settles itsSize (given w) = isSome (w .size)
 settles itsScreen (given w) = isSome (w .screen)
 settles itsLock (given w) = true
 
--- render status 0, or every group said and the position in full
-unfoldable pub settlesAll : Render → Bool
-settlesAll r = settles itsPosition r && settles itsZone r && settles itsSize r && settles itsScreen r && settles itsLock r
-
+-- a group is settled from the word on that settles it
 unfoldable pub newMark : Render → ℤ → ℤ
-newMark r m = cond (settlesAll r) settled m
+newMark r m = pos (bitsOf (λ g. settles g r || marked g m))
 
 -- fixed kinds are settled in every block
 unfoldable pub rowMark : Kind → Render → ℤ → ℤ
@@ -58,5 +80,5 @@ rowMark k r m = cond (isDynamic k) (newMark r m) settled
 -- What computing opens
 
 unfoldable pub computed : Unit {0}
-unfolding marked settles settlesAll newMark rowMark
+unfolding marked bitsOf settles newMark rowMark
 computed = tt

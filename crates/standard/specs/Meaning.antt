@@ -12,7 +12,7 @@ use Rattle.standard.specs.Numbers.{sideLimit, heightLimit, priorityLimit
 use Rattle.standard.specs.Tree.{Kind, kindCode, isDynamic, Point, Position, GainWord, level, copied, PointWord, absolute, moved, PositionWord, Render, default, kept, given, Update, inactive, active, Object, Tree, kindsOf}
 use Rattle.standard.specs.Syntax.{syntax}
 use Rattle.standard.specs.Rows.{Picture, Row, State, defaultPicture, noRow, is, isSilent}
-use Rattle.standard.specs.Marks.{settled, doubted, rowMark}
+use Rattle.standard.specs.Marks.{settled, isSettled, doubted, rowMark}
 
 -- Start rows: the retained ones where the kinds are the same, and default ones where they are not
 
@@ -141,7 +141,7 @@ retain st t = record { doubt = pos 0; rows = lastRows st t }
 
 unfoldable pub unsettledCount : List Row → ℕ
 unsettledCount [] = 0
-unsettledCount (r ∷ rs) = cond (is 0 (r .mark)) 1 0 + unsettledCount rs
+unsettledCount (r ∷ rs) = cond (isSettled (r .mark)) 0 1 + unsettledCount rs
 
 -- What the calls do to the state
 

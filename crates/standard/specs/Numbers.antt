@@ -114,6 +114,10 @@ infinity = 17
 abbrev pub priorityLimit : ℕ
 priorityLimit = 32
 
+-- the mark of a row whose groups are all settled, and the largest
+abbrev pub markLimit : ℕ
+markLimit = 31
+
 -- in dB
 abbrev pub lowestGain : ℤ
 lowestGain = negsuc 48

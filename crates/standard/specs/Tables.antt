@@ -7,9 +7,10 @@ use lib.Signed.{leZ}
 use lib.ListN.{length, getD, take, drop, replicate}
 use Rattle.standard.specs.Numbers.{countAt, doubtAt, rowWidth, objectLimit, retainedHead}
 use Rattle.standard.specs.Numbers.{kindAt, activeAt, gainAt, priorityAt, xAt, yAt, zAt, widthAt, depthAt, heightAt, screenAt, lockAt, zoneAt, elevationAt, distanceAt, markAt}
-use Rattle.standard.specs.Numbers.{sideLimit, heightLimit, sizeLimit, zoneLimit, infinity, priorityLimit, lowestGain, highestGain}
+use Rattle.standard.specs.Numbers.{sideLimit, heightLimit, sizeLimit, zoneLimit, infinity, priorityLimit, markLimit, lowestGain, highestGain}
 use Rattle.standard.specs.Tree.{kindCode, dynamic, Point, Position, Zone, Size, Timing}
 use Rattle.standard.specs.Rows.{Picture, Row, State, defaultPicture, noRow, eqℤ, is, isSilent}
+use Rattle.standard.specs.Marks.{isSettled}
 
 -- kind; active; gain; priority; x; y; z; width, depth, height; screen; lock; zone; elevation; distance; mark
 unfoldable pub rowNumbers : Row → List ℤ
@@ -120,7 +121,7 @@ unfoldable pub pictureForm : Picture → Bool
 pictureForm p = every (pictureTests p)
 
 unfoldable pub markForm : ℤ → Bool
-markForm m = isFlag m
+markForm m = upTo markLimit m
 
 -- equal in each number
 
@@ -152,7 +153,7 @@ activeForm r = is 1 (r .active) || (isSilent (r .gain) && is 0 (r .priority))
 unfoldable pub fixedForm : Row → Bool
 fixedForm r = is (kindCode dynamic) (r .kind) || isDefault (r .picture)
 
--- of a row to be shown: a fixed kind has either mark
+-- of a row to be shown: a fixed kind has any mark
 unfoldable pub shownTests : Row → List Bool
 shownTests r =
     upTo (kindCode dynamic) (r .kind) ∷ isFlag (r .active) ∷ gainForm (r .gain) ∷ upTo priorityLimit (r .priority)
@@ -161,12 +162,9 @@ shownTests r =
 unfoldable pub shownForm : Row → Bool
 shownForm r = every (shownTests r)
 
-abbrev pub isFull : ℤ → Bool
-isFull m = is 1 m
-
--- of a retained row: a fixed kind has mark 1
+-- of a retained row: a fixed kind is settled
 unfoldable pub rowForm : Row → Bool
-rowForm r = shownForm r && (is (kindCode dynamic) (r .kind) || isFull (r .mark))
+rowForm r = shownForm r && (is (kindCode dynamic) (r .kind) || isSettled (r .mark))
 
 unfoldable pub allForm : List Row → Bool
 allForm [] = true

@@ -1,10 +1,11 @@
 // What the words of one object in one block do to its row. It cannot refuse.
 ghost use mathlib.Core.Path.{_≡_};
-ghost use mathlib.Core.Bool.{cond};
-ghost use Prim.Native.Nat.{_<_};
-ghost use lib.IntN.{_+ℤ_};
+ghost use mathlib.Core.Bool.{cond, _||_};
+ghost use Prim.Native.Nat.{_<_, _≤_};
+ghost use lib.IntN.{pos, _+ℤ_};
 ghost use Rattle.bits.specs.Bits.{isSet};
 ghost use Rattle.standard.specs.Tree.{given};
+ghost use Rattle.standard.specs.Rows.{Group};
 ghost use Rattle.standard.specs.Marks as marks;
 ghost use Rattle.standard.specs.Meaning as meaning;
 ghost use Rattle.rows.specs.Kinds.{kindOf};
@@ -16,9 +17,15 @@ use crate::words::Render;
 use crate::words::Update;
 use bits::is_set;
 use rows::numbers::HEIGHT_LIMIT;
+use rows::numbers::LOCK_BIT;
+use rows::numbers::MARKS;
+use rows::numbers::POSITION_BIT;
+use rows::numbers::SCREEN_BIT;
 use rows::numbers::SETTLED;
 use rows::numbers::SIDE_LIMIT;
 use rows::numbers::SILENCE;
+use rows::numbers::SIZE_BIT;
+use rows::numbers::ZONE_BIT;
 use rows::row::Picture;
 use rows::row::Point;
 use rows::row::Row;
@@ -173,20 +180,40 @@ fn row_mark(dynamic: bool, render: Render, before: i16) -> i16
     }
     match render {
         Render::Default(_) => SETTLED,
-        Render::Kept => before,
-        Render::Given(groups) => new_mark(groups, before),
+        Render::Kept => risen(0, before),
+        Render::Given(groups) => risen(settled_by(groups), before),
     }
 }
 
-// Every group said, and the position in full, settles the picture.
-fn new_mark(groups: Groups, before: i16) -> i16
-    ensures { λ r. ⌜ r ≡ marks.newMark (given (groupsSaid groups)) «before» ⌝ }
+// The bits of the groups that are read, the position's if it is absolute. A lock is always read.
+fn settled_by(groups: Groups) -> u32
+    ensures { λ r. ⌜ r ≡ marks.bitsOf (λ g. marks.settles g (given (groupsSaid groups))) ⌝ }
 {
     let flags = groups.flags;
-    let placed = is_set(flags, 3) & !groups.steps;
-    if placed & is_set(flags, 2) & is_set(flags, 1) & is_set(flags, 0) {
-        SETTLED
-    } else {
-        before
-    }
+    let position = bit_if(is_set(flags, 3) & !groups.steps, POSITION_BIT);
+    let zone = bit_if(is_set(flags, 2), ZONE_BIT);
+    let size = bit_if(is_set(flags, 1), SIZE_BIT);
+    let screen = bit_if(is_set(flags, 0), SCREEN_BIT);
+    let lock = bit_if(true, LOCK_BIT);
+    position + zone + size + screen + lock
+}
+
+fn bit_if(said: bool, bit: u32) -> u32
+    ensures { λ r. ⌜ (r ≡ cond said bit 0) × (r ≤ bit) ⌝ }
+{
+    if said { bit } else { 0 }
+}
+
+// A bit that is set stays set.
+fn risen(bits: u32, before: i16) -> i16
+    ensures { λ r. ⌜ r ≡ pos (marks.bitsOf (λ g. marks.marked g (pos bits) || marks.marked g «before»)) ⌝ }
+{
+    ((bits | bits_of(before)) % MARKS) as i16
+}
+
+// A number below 0 is no mark.
+fn bits_of(mark: i16) -> u32
+    ensures { λ r. ⌜ ((g : Group) → marks.marked g (pos r) ≡ marks.marked g mark) ⌝ }
+{
+    if mark < 0 { 0 } else { mark as u32 }
 }

@@ -7,7 +7,6 @@ use native.Mathlib.Omega.{arith}
 use lib.IntN.{natAbs}
 use Rattle.standard.specs.Tree.{Position}
 use Rattle.standard.specs.Rows.{itsPosition}
-use Rattle.standard.specs.Calls.{decode}
 use Rattle.standard.specs.Journal.{freshTables}
 use Rattle.standard.specs.Events.{ofGap, ofReset, Event, starts, heard, missed, warns, warnsBoth, run, goneAstray, firstCall, secondCall}
 use Rattle.standard.proofs.OnCalls.{CallsAgree}
@@ -20,7 +19,7 @@ onward = said 1 (blocks 1 ++ first unity (place 40 50 1 3))
 -- After these events, a payload at rest
 
 abbrev Agree : List Event → Type 0
-Agree es = CallsAgree (decode restOne (run firstCall freshTables es)) (decode restOne (run secondCall freshTables es))
+Agree es = CallsAgree restOne (run firstCall freshTables es) (run secondCall freshTables es)
 
 -- a row's x
 atX : Position → ℕ

@@ -43,24 +43,24 @@ onwards d = on (kept ++ groups 8 (steps 1 7 0 ++ d ++ free))
 unfoldable pub distanceCases : List Case
 distanceCases =
     -- a position sets it in block 0: by its index and one, at infinity
-    become 1 1 (richlyAt (factor 0)) (distant 1 (richRow 1 (pos 0) 32 10 20 (pos 5) 1) ∷ [])
-    ∷ become 1 1 (richlyAt (factor 15)) (distant 16 (richRow 1 (pos 0) 32 10 20 (pos 5) 1) ∷ [])
-    ∷ become 1 1 (richlyAt infinite) (distant 17 (richRow 1 (pos 0) 32 10 20 (pos 5) 1) ∷ [])
+    become 1 1 (richlyAt (factor 0)) (distant 1 (richRow 1 (pos 0) 32 10 20 (pos 5) 31) ∷ [])
+    ∷ become 1 1 (richlyAt (factor 15)) (distant 16 (richRow 1 (pos 0) 32 10 20 (pos 5) 31) ∷ [])
+    ∷ become 1 1 (richlyAt infinite) (distant 17 (richRow 1 (pos 0) 32 10 20 (pos 5) 31) ∷ [])
     -- in later blocks one in full and one by steps do so alike, and also where none is specified
     ∷ become 1 5 (first unity (spot 10 20 1 5 ++ infinite) ++ onwards (factor 15) ++ onwards near ++ fully infinite ++ fully near)
-    (distant 17 (onRow (pos 0) 32 10 20 (pos 5) 1)
-    ∷ distant 16 (onRow (pos 0) 32 11 19 (pos 5) 1)
-    ∷ onRow (pos 0) 32 12 18 (pos 5) 1
-    ∷ distant 17 (onRow (pos 0) 32 40 50 (neg 3) 1)
-    ∷ onRow (pos 0) 32 40 50 (neg 3) 1 ∷ [])
+    (distant 17 (onRow (pos 0) 32 10 20 (pos 5) 31)
+    ∷ distant 16 (onRow (pos 0) 32 11 19 (pos 5) 31)
+    ∷ onRow (pos 0) 32 12 18 (pos 5) 31
+    ∷ distant 17 (onRow (pos 0) 32 40 50 (neg 3) 31)
+    ∷ onRow (pos 0) 32 40 50 (neg 3) 31 ∷ [])
     -- render status 2, the other groups and rest keep it, from payload to payload too; render status 0 ends it
     ∷ shows (payload (said 1 (blocks 1 ++ richlyAt infinite)) ∷ [])
     (said 1 (blocks 4 ++ off ++ on (2 ⊳ 1 ++ unity ++ usual ++ kept) ++ on (kept ++ groups 7 rich) ++ on (kept ++ 2 ⊳ 0))) 1 4 0
-    (distant 17 (richRow 1 (pos 0) 32 10 20 (pos 5) 1) ∷ [])
-    (distant 17 (richRow 0 (neg 128) 0 10 20 (pos 5) 1)
-    ∷ distant 17 (richRow 1 (pos 0) 32 10 20 (pos 5) 1)
-    ∷ distant 17 (richRow 1 (pos 0) 32 10 20 (pos 5) 1)
-    ∷ onRow (pos 0) 32 31 31 (pos 0) 1 ∷ [])
+    (distant 17 (richRow 1 (pos 0) 32 10 20 (pos 5) 31) ∷ [])
+    (distant 17 (richRow 0 (neg 128) 0 10 20 (pos 5) 31)
+    ∷ distant 17 (richRow 1 (pos 0) 32 10 20 (pos 5) 31)
+    ∷ distant 17 (richRow 1 (pos 0) 32 10 20 (pos 5) 31)
+    ∷ onRow (pos 0) 32 31 31 (pos 0) 31 ∷ [])
     ∷ []
 
 pub distances : T (allHold far distanceCases)

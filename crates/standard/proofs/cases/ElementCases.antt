@@ -39,7 +39,7 @@ last v = 4 ⊳ v ++ 1 ⊳ 0
 
 -- accepted: the object is at rest
 unfoldable pub rests : List ℕ → Case
-rests s = shows [] s 1 1 0 (defaultOf 3 1 ∷ []) (offRow 31 31 (pos 0) 1 ∷ [])
+rests s = shows [] s 1 1 0 (defaultOf 3 31 ∷ []) (offRow 31 31 (pos 0) 31 ∷ [])
 
 -- warp, two bits, mode
 unfoldable pub trim : ℕ → ℕ → ℕ → Bits → Bits
@@ -117,7 +117,7 @@ trimCases =
     ∷ rests (ofElements (rest ∷ trim 1 0 1 (1 ⊳ 1 ++ 1 ⊳ 1) ∷ trim 0 0 1 (1 ⊳ 1 ++ 1 ⊳ 0) ∷ []))
     -- one bit for each of two objects
     ∷ shows [] (bytes (dynamicOnly 2 0 ++ elements (trim 1 0 1 (1 ⊳ 1 ++ 2 ⊳ 3) ∷ element 1 (blocks 1 ++ off ++ off) ∷ []))) 2 1 0
-    (defaultOf 3 1 ∷ defaultOf 3 1 ∷ []) (offRow 31 31 (pos 0) 1 ∷ offRow 31 31 (pos 0) 1 ∷ [])
+    (defaultOf 3 31 ∷ defaultOf 3 31 ∷ []) (offRow 31 31 (pos 0) 31 ∷ offRow 31 31 (pos 0) 31 ∷ [])
     ∷ []
 
 -- Padding

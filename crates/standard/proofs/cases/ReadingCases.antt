@@ -21,13 +21,13 @@ unfoldable pub assigns : Bits → List ℕ → Case
 assigns content ks =
     let n = length ks in
     shows [] (bytes (assigned n content ++ elements (element 1 (blocks 1 ++ atRest n) ∷ []))) n 1 0
-    (map (λ (k : ℕ). defaultOf k 1) ks) (map (λ (k : ℕ). inactiveOf k 1) ks)
+    (map (λ (k : ℕ). defaultOf k 31) ks) (map (λ (k : ℕ). inactiveOf k 31) ks)
 
 -- the timings of one object at rest, from an offset, and the numbers they give
 unfoldable pub runs : Bits → List Bits → List ℕ → Case
 runs offset ts numbers =
     let b = length ts in
-    gives [] (said 1 (timed offset ts ++ atRest b)) 1 b 0 (defaultOf 3 1 ∷ []) (replicate b (offRow 31 31 (pos 0) 1)) numbers
+    gives [] (said 1 (timed offset ts ++ atRest b)) 1 b 0 (defaultOf 3 31 ∷ []) (replicate b (offRow 31 31 (pos 0) 31)) numbers
 
 -- a block at 0 with an indexed ramp
 unfoldable pub indexed : ℕ → Bits
@@ -57,13 +57,13 @@ countCases =
     ∷ fails (bytes (2 ⊳ 3 ++ 3 ⊳ 5)) 4 context.version 0
     -- a count in two parts, 31 and 0: 32 objects
     ∷ shows [] (bytes (2 ⊳ 0 ++ 5 ⊳ 31 ++ 7 ⊳ 0 ++ 1 ⊳ 1 ++ 1 ⊳ 0 ++ elements (element 1 (blocks 1 ++ atRest 32) ∷ []))) 32 1 0
-    (replicate 32 (defaultOf 3 1)) (replicate 32 (inactiveOf 3 1))
+    (replicate 32 (defaultOf 3 31)) (replicate 32 (inactiveOf 3 31))
     -- the second part cut: at its own first bit
     ∷ lacks (bytes (2 ⊳ 0 ++ 5 ⊳ 31)) context.extended-object-count 7 6
     -- dynamic-only, and an Lfe before two Dynamic. An Lfe has basic information and no render information
     ∷ shows [] (saidWithLfe 3 (blocks 1 ++ on (level 20 ++ usual) ++ first unity (place 1 2 1 3) ++ off)) 3 1 0
-    (defaultOf 0 1 ∷ defaultOf 3 1 ∷ defaultOf 3 1 ∷ [])
-    (plainRow (pos 0) (pos 1) (neg 6) (pos 32) (pos 31) (pos 31) (pos 0) (pos 1) ∷ onRow (pos 0) 32 1 2 (pos 3) 1 ∷ offRow 31 31 (pos 0) 1 ∷ [])
+    (defaultOf 0 31 ∷ defaultOf 3 31 ∷ defaultOf 3 31 ∷ [])
+    (plainRow (pos 0) (pos 1) (neg 6) (pos 32) (pos 31) (pos 31) (pos 0) (pos 31) ∷ onRow (pos 0) 32 1 2 (pos 3) 31 ∷ offRow 31 31 (pos 0) 31 ∷ [])
     ∷ lacks (bytes (2 ⊳ 0 ++ 5 ⊳ 0 ++ 1 ⊳ 1)) context.LFE-present-flag 8 1
     ∷ []
 
@@ -134,7 +134,7 @@ timingCases =
     ∷ runs (2 ⊳ 0) (indexed 8 ∷ indexed 9 ∷ indexed 10 ∷ indexed 11 ∷ indexed 12 ∷ indexed 13 ∷ indexed 14 ∷ indexed 15 ∷ [])
     (0 ∷ 1024 ∷ 0 ∷ 1600 ∷ 0 ∷ 1601 ∷ 0 ∷ 1602 ∷ 0 ∷ 1920 ∷ 0 ∷ 2000 ∷ 0 ∷ 2002 ∷ 0 ∷ 2048 ∷ [])
     -- reserved bits, where there are any, are 0
-    ∷ shows [] (said 1 (2 ⊳ 0 ++ 3 ⊳ 0 ++ 6 ⊳ 0 ++ 2 ⊳ 0 ++ 1 ⊳ 0 ++ 5 ⊳ 0 ++ off)) 1 1 0 (defaultOf 3 1 ∷ []) (offRow 31 31 (pos 0) 1 ∷ [])
+    ∷ shows [] (said 1 (2 ⊳ 0 ++ 3 ⊳ 0 ++ 6 ⊳ 0 ++ 2 ⊳ 0 ++ 1 ⊳ 0 ++ 5 ⊳ 0 ++ off)) 1 1 0 (defaultOf 3 31 ∷ []) (offRow 31 31 (pos 0) 31 ∷ [])
     ∷ fails (said 1 (2 ⊳ 0 ++ 3 ⊳ 0 ++ 6 ⊳ 0 ++ 2 ⊳ 0 ++ 1 ⊳ 0 ++ 5 ⊳ 1 ++ off)) 2 context.object-element-reserved-data 38
     ∷ []
 
@@ -149,7 +149,7 @@ tableDataCases =
     ++ 1 ⊳ 0 ++ unity ++ usual ++ place 1 2 1 3 ++ plain ++ 1 ⊳ 1 ++ 4 ⊳ 0 ++ 8 ⊳ 0xff
     ++ first unity (place 4 5 1 6)))
     3 1 0
-    (defaultOf 3 1 ∷ defaultOf 3 1 ∷ defaultOf 3 1 ∷ []) (offRow 31 31 (pos 0) 1 ∷ onRow (pos 0) 32 1 2 (pos 3) 1 ∷ onRow (pos 0) 32 4 5 (pos 6) 1 ∷ [])
+    (defaultOf 3 31 ∷ defaultOf 3 31 ∷ defaultOf 3 31 ∷ []) (offRow 31 31 (pos 0) 31 ∷ onRow (pos 0) 32 1 2 (pos 3) 31 ∷ onRow (pos 0) 32 4 5 (pos 6) 31 ∷ [])
     -- cut by the element's end: where the run begins
     ∷ lacks (said 1 (blocks 1 ++ 1 ⊳ 1 ++ 1 ⊳ 1 ++ 4 ⊳ 15)) context.additional-table-data 44 125
     ∷ []

@@ -54,7 +54,7 @@ one r = rows (r ∷ [])
 -- the default row of a kind, of a Dynamic, with one of its numbers changed
 
 abbrev alteredOf : Kind → ℕ → ℤ → List ℤ
-alteredOf k at v = pos 1 ∷ pos 0 ∷ set (rowNumbers (defaultOf (kindCode k) 1)) at v
+alteredOf k at v = pos 1 ∷ pos 0 ∷ set (rowNumbers (defaultOf (kindCode k) 31)) at v
 
 abbrev altered : ℕ → ℤ → List ℤ
 altered at v = alteredOf dynamic at v
@@ -62,9 +62,9 @@ altered at v = alteredOf dynamic at v
 unfoldable pub broken : List (List ℤ)
 broken =
     -- counts outside 0 to 128
-    rows (replicate 129 (defaultOf 3 1)) ∷ (neg 1 ∷ pos 0 ∷ rowNumbers (defaultOf 3 1))
-    -- kinds outside 0 to 3; flags, a mark and a doubt that are neither 0 nor 1
-    ∷ altered kindAt (pos 4) ∷ altered kindAt (neg 1) ∷ altered activeAt (pos 2) ∷ altered screenAt (pos 2) ∷ altered lockAt (pos 2) ∷ altered elevationAt (pos 2) ∷ altered markAt (pos 2) ∷ altered markAt (neg 1)
+    rows (replicate 129 (defaultOf 3 31)) ∷ (neg 1 ∷ pos 0 ∷ rowNumbers (defaultOf 3 31))
+    -- kinds outside 0 to 3; flags and a doubt that are neither 0 nor 1; marks outside 0 to 31
+    ∷ altered kindAt (pos 4) ∷ altered kindAt (neg 1) ∷ altered activeAt (pos 2) ∷ altered screenAt (pos 2) ∷ altered lockAt (pos 2) ∷ altered elevationAt (pos 2) ∷ altered markAt (pos 32) ∷ altered markAt (neg 1)
     ∷ (pos 0 ∷ pos 2 ∷ []) ∷ (pos 0 ∷ neg 1 ∷ [])
     -- gains outside -49 to 15 that are not -128; priorities outside 0 to 32
     ∷ altered gainAt (pos 16) ∷ altered gainAt (neg 50) ∷ altered gainAt (neg 127) ∷ altered gainAt (neg 129) ∷ altered priorityAt (pos 33) ∷ altered priorityAt (neg 1)
@@ -75,27 +75,27 @@ broken =
     -- sizes outside 0 to 31, zones outside 0 to 5
     ∷ altered widthAt (pos 32) ∷ altered depthAt (pos 32) ∷ altered heightAt (pos 32) ∷ altered heightAt (neg 1) ∷ altered zoneAt (pos 6) ∷ altered zoneAt (neg 1)
     -- at rest with a priority, and with a gain
-    ∷ one (plainRow (pos 3) (pos 0) silence (pos 1) (pos 31) (pos 31) (pos 0) (pos 1)) ∷ one (plainRow (pos 3) (pos 0) (pos 0) (pos 0) (pos 31) (pos 31) (pos 0) (pos 1))
+    ∷ one (plainRow (pos 3) (pos 0) silence (pos 1) (pos 31) (pos 31) (pos 0) (pos 31)) ∷ one (plainRow (pos 3) (pos 0) (pos 0) (pos 0) (pos 31) (pos 31) (pos 0) (pos 31))
     -- fixed kinds whose picture is not the default: each number of it, of a Bed,
     ∷ alteredOf bed xAt (pos 30) ∷ alteredOf bed yAt (pos 30) ∷ alteredOf bed zAt (pos 1)
     ∷ alteredOf bed widthAt (pos 1) ∷ alteredOf bed depthAt (pos 1) ∷ alteredOf bed heightAt (pos 1)
     ∷ alteredOf bed screenAt (pos 1) ∷ alteredOf bed lockAt (pos 1) ∷ alteredOf bed zoneAt (pos 1) ∷ alteredOf bed elevationAt (pos 0) ∷ alteredOf bed distanceAt (pos 17)
-    -- of an Lfe and an Isf; and such that are not settled
+    -- of an Lfe and an Isf; and such that have not every group settled
     ∷ alteredOf lfe xAt (pos 30) ∷ alteredOf isf xAt (pos 30)
-    ∷ one (defaultOf 0 0) ∷ one (defaultOf 1 0) ∷ one (defaultOf 2 0)
+    ∷ one (defaultOf 0 0) ∷ one (defaultOf 1 0) ∷ one (defaultOf 2 0) ∷ one (defaultOf 0 15) ∷ one (defaultOf 1 30) ∷ one (defaultOf 2 1)
     -- in any row
-    ∷ rows (defaultOf 3 1 ∷ onRow (pos 0) 32 63 31 (pos 0) 1 ∷ []) ∷ []
+    ∷ rows (defaultOf 3 31 ∷ onRow (pos 0) 32 63 31 (pos 0) 31 ∷ []) ∷ []
 
 -- the ends of every range
 unfoldable pub whole : List (List ℤ)
 whole =
-    (pos 0 ∷ pos 1 ∷ []) ∷ rows (replicate 128 (defaultOf 3 1))
-    ∷ one (defaultOf 0 1) ∷ one (defaultOf 1 1) ∷ one (defaultOf 2 1) ∷ one (inactiveOf 0 1) ∷ one (inactiveOf 3 0)
+    (pos 0 ∷ pos 1 ∷ []) ∷ rows (replicate 128 (defaultOf 3 31))
+    ∷ one (defaultOf 0 31) ∷ one (defaultOf 1 31) ∷ one (defaultOf 2 31) ∷ one (inactiveOf 0 31) ∷ one (inactiveOf 3 0) ∷ altered markAt (pos 1) ∷ altered markAt (pos 30)
     ∷ altered gainAt (pos 15) ∷ altered gainAt (neg 49) ∷ altered gainAt (neg 128) ∷ altered priorityAt (pos 0)
     ∷ altered xAt (pos 0) ∷ altered xAt (pos 62) ∷ altered yAt (pos 0) ∷ altered yAt (pos 62) ∷ altered zAt (pos 15) ∷ altered zAt (neg 15) ∷ altered distanceAt (pos 1) ∷ altered distanceAt (pos 17)
     ∷ one (row 1 (pos 0) 32 0 0 (pos 0) 31 31 31 1 1 5 0 0)
     -- what lies behind the count is not looked at
-    ∷ (one (defaultOf 3 1) ++ replicate rowWidth (pos 99)) ∷ []
+    ∷ (one (defaultOf 3 31) ++ replicate rowWidth (pos 99)) ∷ []
 
 unfoldable pub isBroken : List ℤ → Bool
 isBroken l = let t = holding l in hasRoom t && not (inForm (t .retained))
@@ -143,7 +143,7 @@ longest-payload = tt
 unfoldable pub sevens : Lent
 sevens = holding (pos 0 ∷ pos 0 ∷ replicate (rowWidth * objectLimit) (pos 7))
 
-pub accepted-leaves : decode restOne sevens .lent ≡ acceptedTables sevens 1 1 (defaultOf 3 1 ∷ []) (offRow 31 31 (pos 0) 1 ∷ []) (0 ∷ 0 ∷ [])
+pub accepted-leaves : decode restOne sevens .lent ≡ acceptedTables sevens 1 1 (defaultOf 3 31 ∷ []) (offRow 31 31 (pos 0) 31 ∷ []) (0 ∷ 0 ∷ [])
 unfolding written holding sevens
 accepted-leaves = refl
 
@@ -161,6 +161,6 @@ late = said 1 (timed (2 ⊳ 0) (block 49 (2 ⊳ 0) ∷ []) ++ first unity (place
 -- `retains` says what is retained, and asks nothing of its timings
 pub timing-refusal-undoes-nothing : (decode late freshTables .answer .verdict .number ≡ 0)
     × (timingCall (decode late freshTables .lent .timings) 1 ≡ 10)
-    × (take rowWidth (decode restOne (decode late freshTables .lent) .lent .start) ≡ rowNumbers (onRow (pos 0) 32 10 20 (pos 5) 1))
+    × (take rowWidth (decode restOne (decode late freshTables .lent) .lent .start) ≡ rowNumbers (onRow (pos 0) 32 10 20 (pos 5) 31))
 unfolding written
 timing-refusal-undoes-nothing = (refl, refl, refl)

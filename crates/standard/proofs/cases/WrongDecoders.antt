@@ -2,16 +2,17 @@
 use Prim.Native.Nat.{ℕ, _+_, _*_}
 use mathlib.Core.Path.{_≡_, refl, sym, _∙_, ap}
 use mathlib.Core.Logic.{_≢_}
-use mathlib.Core.Bool.{Bool, true, false, cond, _&&_, true≢false}
+use mathlib.Core.Bool.{Bool, true, false, cond, not, _&&_, true≢false}
 use mathlib.Core.List.{List, [], _∷_, _++_, map, flatten}
 use native.Mathlib.Omega.{arith}
 use lib.Dec.{eqb}
-use lib.IntN.{ℤ, pos, negℤ}
+use lib.IntN.{ℤ, pos, negℤ, natAbs}
 use lib.ListN.{getD, take, drop, replicate}
 use Rattle.bits.specs.Parsed.{truncated}
 use Rattle.standard.specs.Numbers.{retainedHead, retainedLength, startLength, blocksLength, timingsLength, kindAt, xAt, zAt, markAt}
 use Rattle.standard.specs.Contexts as context
-use Rattle.standard.specs.Rows.{Picture, Row, defaultPicture, eqℤ, is}
+use Rattle.standard.specs.Rows.{Picture, Row, defaultPicture, itsLock, eqℤ, is}
+use Rattle.standard.specs.Marks.{unsettled, bitOf, marked, bitsOf}
 use Rattle.standard.specs.Tables.{rowsNumbers, rowsOf, countOf}
 use Rattle.standard.specs.Calls.{Lent, Done, over, decline, decode, timingCall}
 use Rattle.standard.specs.Journal.{withRetained, replyTo, freshTables}
@@ -20,7 +21,7 @@ use Rattle.standard.specs.Events.{run}
 use Rattle.standard.proofs.MarkLaws.{none-differs}
 use Rattle.standard.proofs.MarksOnCalls.{FrameSettled}
 use Rattle.standard.proofs.Threaded.{no-gap-threaded}
-use Rattle.standard.proofs.FromZeros.{Lengths, zeroTables, zeros-roomy}
+use Rattle.standard.proofs.FromZeros.{Lengths, Sufficient, zeroTables, zeros-roomy}
 use Rattle.standard.proofs.cases.Writer.{_⊳_, bytes, dynamicOnly, said, block, timed, blocks, off, unity, place, first, restOne, movedOne, written}
 
 abbrev pub Decoder : Type 0
@@ -39,13 +40,13 @@ pub wrong : (f : Decoder) (s : List ℕ) (l : Lent) → Breaks f s l → Keeps f
 wrong f s l h k = h (k s l)
 
 -- a test that tells the two apart
-tells : {a b : Done} (test : Done → Bool) → test a ≡ true → test b ≡ false → a ≢ b
+pub tells : {a b : Done} (test : Done → Bool) → test a ≡ true → test b ≡ false → a ≢ b
 tells test x y e = true≢false (sym x ∙ ap test e ∙ y)
 
 -- What the tests look at
 
 -- number i of the block table, of the retained table
-abbrev blockIs : ℕ → ℤ → Done → Bool
+abbrev pub blockIs : ℕ → ℤ → Done → Bool
 blockIs i v d = eqℤ (getD (d .lent .blocks) i (pos 0)) v
 
 abbrev retainedIs : ℕ → ℤ → Done → Bool
@@ -139,17 +140,25 @@ changes-alone = refl
 abbrev pub KeepsMarks : Decoder → Type 0
 KeepsMarks f = (s : List ℕ) → FrameSettled (f s freshTables)
 
+-- the lengths of fresh tables
+abbrev pub exact : Lengths
+exact = record { retained = retainedLength; start = startLength; blocks = blocksLength; timings = timingsLength }
+
+pub exact-suffice : Sufficient exact
+exact-suffice = record { retained = omega arith; start = omega arith; blocks = omega arith; timings = omega arith }
+
 -- decode keeps it
 pub decode-keeps-marks : KeepsMarks decode
 unfolding freshTables run events.after replyTo
-decode-keeps-marks s = no-gap-threaded (zeroTables exact) [] s (zeros-roomy exact (record { retained = omega arith; start = omega arith; blocks = omega arith; timings = omega arith })) refl
-  where
-    exact : Lengths
-    exact = record { retained = retainedLength; start = startLength; blocks = blocksLength; timings = timingsLength }
+decode-keeps-marks s = no-gap-threaded (zeroTables exact) [] s (zeros-roomy exact exact-suffice) refl
+
+-- a row with another mark
+abbrev pub withMark : (ℤ → ℤ) → Row → Row
+withMark f r = record { kind = r .kind; active = r .active; gain = r .gain; priority = r .priority; picture = r .picture; mark = f (r .mark) }
 
 -- marks all unsettled
 unfoldable pub unsettling : Row → Row
-unsettling r = record { kind = r .kind; active = r .active; gain = r .gain; priority = r .priority; picture = r .picture; mark = pos 0 }
+unsettling r = withMark (λ m. unsettled) r
 
 pub marks-all-unsettled : Breaks (changing unsettling) restOne freshTables
 unfolding written changing unsettling
@@ -158,6 +167,18 @@ marks-all-unsettled = tells (blockIs markAt (pos 0)) refl refl
 pub unsettling-breaks-the-mark-rule : KeepsMarks (changing unsettling) → ⊥
 unfolding written changing unsettling
 unsettling-breaks-the-mark-rule h = none-differs (h restOne .blocks .rows .0)
+
+-- marks one group unsettled, the lock: the bits that are left are not all
+unfoldable pub unlocking : Row → Row
+unlocking r = withMark (λ m. pos (bitsOf (λ g. marked g m && not (marked g (pos (bitOf itsLock)))))) r
+
+pub marks-a-group-unsettled : Breaks (changing unlocking) restOne freshTables
+unfolding written changing unlocking
+marks-a-group-unsettled = tells (blockIs markAt (pos 15)) refl refl
+
+pub unlocking-breaks-the-mark-rule : KeepsMarks (changing unlocking) → ⊥
+unfolding written changing unlocking
+unlocking-breaks-the-mark-rule h = let e : _≡_ {A = ℕ} 15 31 = ap natAbs (h restOne .blocks .rows .0) in omega arith
 
 -- invents the unsettled count
 unfoldable pub inventing : Decoder

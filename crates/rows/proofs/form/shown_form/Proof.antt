@@ -17,7 +17,7 @@ returns c =
     and c .before .before .before .before .before .before .before .gain-form .ensures ∙ search needs
     and c .before .before .before .before .before .within2 .ensures ∙ search needs
     and c .before .before .before .before .picture-form .ensures
-    and c .before .before .is-flag2 .ensures ∙ search needs
+    and c .before .before .within3 .ensures ∙ search needs
     and c .before .active-form .ensures
     and c .fixed-form .ensures
     and no-more)

@@ -100,7 +100,7 @@ enum {
     CEPOKARAN_SIZE_BIT = 4,     /* width, depth, height: it is as large as in the mix */
     CEPOKARAN_SCREEN_BIT = 8,   /* screen: it follows the screen, or not, as in the mix */
     CEPOKARAN_LOCK_BIT = 16,    /* lock: it snaps to a speaker, or not, as in the mix */
-    CEPOKARAN_SETTLED = 31      /* all five: the whole picture is the mix's */
+    CEPOKARAN_ALL_BITS = 31     /* all five: the row is settled, and its whole picture the mix's */
 };
 
 /* ---- Numbers given back ---------------------------------------------------------------------- */
@@ -171,7 +171,7 @@ enum {
     CEPOKARAN_PLACE = 1,    /* refused by 1 to 4: its bit, counted from the payload's first */
     CEPOKARAN_OBJECTS = 2,  /* accepted: how many objects, 1 to 128 */
     CEPOKARAN_BLOCKS = 3,   /* accepted: how many blocks, 1 to 8 */
-    CEPOKARAN_UNSETTLED = 4,/* accepted: how many rows of the last block have a mark below CEPOKARAN_SETTLED */
+    CEPOKARAN_UNSETTLED = 4,/* accepted: how many rows of the last block have a mark below CEPOKARAN_ALL_BITS */
     CEPOKARAN_MISSING = 5,  /* refused by 1: how many bits were missing, 1 to 559,232; else 0 */
     CEPOKARAN_ANSWER_LENGTH = 6
 };
@@ -198,13 +198,13 @@ enum {
  * A row's mark says what to believe after payloads were missed and a gap notice or a reset was given for
  * them. A group of the picture whose bit is set is what a decoder would hold that missed nothing, whatever
  * the other bits are: an object may stand at its true place while its zone is unknown. A program that takes
- * every mark but 0 for settled was built when there was one bit: compare with CEPOKARAN_SETTLED.
+ * every mark but 0 for settled was built when there was one bit: compare with CEPOKARAN_ALL_BITS.
  *
  * A bit is set once its group is read. Steps leave the position's bit as it was, since a step from an unknown
  * place leads to one, although their distance is new. The lock is read at every render status 1 and 3, and
  * status 0, the default picture, sets all five. No bit falls within a frame. A block row of a fixed kind is
  * settled, and so is each of a Dynamic object that is active in the first block. Without a gap notice or a
- * reset since the last start, or since a table of zeros, every mark is CEPOKARAN_SETTLED.
+ * reset since the last start, or since a table of zeros, every mark is CEPOKARAN_ALL_BITS.
  *
  * In a block row kind, active, gain and priority are always what such a decoder would hold. In a start row the
  * kind is; active, gain and priority are unless retained[CEPOKARAN_DOUBT] was 1 before the call, and then the

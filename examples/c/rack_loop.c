@@ -116,7 +116,7 @@ static void print_ramps(uint32_t block_count)
 /* The groups that may differ from the mix. A mixer trusts the others. */
 static void print_unsettled(int16_t mark)
 {
-    if (mark == CEPOKARAN_SETTLED)
+    if (mark == CEPOKARAN_ALL_BITS)
         return;
     printf(", UNSETTLED:");
     for (size_t i = 0; i < sizeof groups / sizeof *groups; i++)

@@ -23,6 +23,7 @@ use crate::context as c;
 use crate::payload::{Payload, Purpose, LATER_SIZE_GROUP};
 use crate::random::Random;
 use crate::spoil::Way;
+use std::collections::BTreeSet;
 
 #[derive(Clone, Copy)]
 pub struct Aim {
@@ -108,6 +109,13 @@ pub fn aims() -> Vec<Aim> {
     aims.extend(cuts(&CUT_IN_ELEMENTS, Way::ElementEnd));
     aims.extend(SPOILED);
     aims
+}
+
+/// The pairs of number and context that can be reached, as an answer has them.
+pub fn reachable() -> BTreeSet<(u32, u32)> {
+    let aims = aims().into_iter();
+    aims.map(|aim| (aim.number.into(), aim.context.into()))
+        .collect()
 }
 
 fn cuts(stretches: &[(u8, u8)], way: fn(u8) -> Way) -> Vec<Aim> {

@@ -1,6 +1,6 @@
 //! Writes the fixed list that the program `replay` runs; docs/notes/replay-list.md has its format.
 
-use oracle::aim::aims;
+use oracle::aim::reachable;
 use oracle::call::Call;
 use oracle::fixed::sequences;
 use oracle::journal::Record;
@@ -53,12 +53,8 @@ impl Seen {
     }
 
     fn check(&self) -> io::Result<()> {
-        let refusals = aims()
-            .into_iter()
-            .map(|aim| (u32::from(aim.number), u32::from(aim.context)));
-        let refusals: BTreeSet<_> = refusals
-            .filter(|pair| !self.answers.contains(pair))
-            .collect();
+        let mut refusals = reachable();
+        refusals.retain(|pair| !self.answers.contains(pair));
         // The lock is read with every other group, so a programme leads to no other marks.
         let mut marks = vec![NONE_SETTLED];
         marks.extend(LOCK_BIT..=ALL_SETTLED);

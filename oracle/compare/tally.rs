@@ -1,13 +1,13 @@
 //! What was seen, printed at the end; and whether that was enough.
 
 use crate::seen::Seen;
-use oracle::aim::aims;
+use oracle::aim::reachable;
 use oracle::answer::TRUNCATED;
 use oracle::context;
 use oracle::listener::{Expected, Said};
 use oracle::orders::{Order, Position};
 use oracle::tables::{ALL_SETTLED, INFINITY, MARK, ROW_WIDTH};
-use std::collections::{BTreeMap, BTreeSet};
+use std::collections::BTreeMap;
 
 /// The least share of accepted payloads, in percent.
 const LEAST_ACCEPTED: u64 = 40;
@@ -163,12 +163,8 @@ impl Tally {
         if self.accepted * 100 < self.payloads * LEAST_ACCEPTED {
             complaints.push(format!("less than {LEAST_ACCEPTED} % accepted"));
         }
-        let pairs = aims()
-            .into_iter()
-            .map(|aim| (u32::from(aim.number), u32::from(aim.context)));
-        let unseen: BTreeSet<_> = pairs
-            .filter(|pair| !self.refused.contains_key(pair))
-            .collect();
+        let mut unseen = reachable();
+        unseen.retain(|pair| !self.refused.contains_key(pair));
         if !unseen.is_empty() {
             complaints.push(format!("refusals never seen (number, context): {unseen:?}"));
         }

@@ -1,4 +1,6 @@
 // From the payload's version to the kinds of its objects.
+#![tactic(auto)]
+
 ghost use Rattle.std.specs.Prelude.{◌≡◌, ◌≤◌, ◌<◌, ◌^◌, length};
 ghost use Rattle.bits.specs.Say.{said, said_passed};
 ghost use Rattle.standard.specs.Assignment as paper;

@@ -1,4 +1,6 @@
 // The reading layer: each read of a payload's bits, the highest of each byte first, answers a value or a refusal.
+#![tactic(auto)]
+
 ghost use Rattle.std.specs.Prelude.{◌≡◌, List, ℕ, ◌+◌, ◌*◌, ◌≤◌, ◌<◌, ◌^◌, get_or};
 ghost use Rattle.bits.specs.Bits.{field};
 ghost use Rattle.bits.specs.Parsed.{truncated, invalid, limit, unsupported};
@@ -13,14 +15,14 @@ pub use values::{is_set, two_to};
 const MAX_VARIABLE_BITS_GROUPS: usize = 4;
 
 // Sizes in bytes and places in bits are kept apart: `bits` is the one way across.
-#[derive(Drop)]
+#[derive(Clone, Copy)]
 pub struct ByteCount(pub usize);
 
-#[derive(Drop)]
+#[derive(Clone, Copy)]
 pub struct BitPlace(pub usize);
 
 // In this order it takes two words, so that an answer of a read stays small.
-#[derive(Drop)]
+#[derive(Clone, Copy)]
 pub struct Refusal {
     pub number: u8,
     pub context: u8,
@@ -28,25 +30,25 @@ pub struct Refusal {
     pub place: BitPlace,
 }
 
-#[derive(Drop)]
+#[derive(Clone, Copy)]
 pub enum Number {
     Value(u32, BitPlace),
     Refused(Refusal),
 }
 
-#[derive(Drop)]
+#[derive(Clone, Copy)]
 pub enum Flag {
     Is(bool, BitPlace),
     Refused(Refusal),
 }
 
-#[derive(Drop)]
+#[derive(Clone, Copy)]
 pub enum Passed {
     To(BitPlace),
     Refused(Refusal),
 }
 
-#[derive(Drop)]
+#[derive(Clone, Copy)]
 pub enum Signed {
     Value(i16, BitPlace),
     Refused(Refusal),

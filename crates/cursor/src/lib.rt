@@ -1,4 +1,6 @@
 // The thin reader: a payload with the place where the next read begins, and the end that cuts the reads.
+#![tactic(auto)]
+
 ghost use Rattle.std.specs.Prelude.{◌≡◌, ◌-◌, ◌≤◌, ◌^◌};
 ghost use Rattle.bits.specs.Reads as reads;
 ghost use Rattle.bits.specs.Say.{said};
@@ -10,7 +12,7 @@ use bits::{BitPlace, Number};
 mod answers;
 
 // Taken by value: a read answers with the place behind it, and `after` goes on from there.
-#[derive(Drop)]
+#[derive(Clone, Copy)]
 pub struct BitCursor<'a> {
     pub payload: &'a [u8],
     pub limit: BitPlace,

@@ -1,4 +1,6 @@
 // The call on containers: the first object payload of one, copied out.
+#![tactic(auto)]
+
 ghost use Rattle.standard.specs.Calls as calls;
 ghost use Rattle.emdf.specs.Promises.{Left};
 

@@ -18,7 +18,7 @@ const OTHER_VERSION: u8 = 14;
 const NO_OBJECT: u8 = 15;
 
 // Of an id and a size, with the place of the payload's first bit.
-#[derive(Drop)]
+#[derive(Clone, Copy)]
 pub enum Header {
     Of(u32, u32, BitPlace),
     Refused(Refusal),

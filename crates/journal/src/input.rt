@@ -7,7 +7,7 @@ use libc::STDIN_FILENO;
 // Two longest records: while one has not arrived whole, there is room to read.
 pub const INPUT_LENGTH: usize = 131078;
 
-#[derive(Drop)]
+#[derive(Clone, Copy)]
 pub enum Arrival {
     // Behind the last byte that has arrived.
     Filled(usize),

@@ -1,4 +1,6 @@
 // Reads a journal from standard input as it comes, and prints a line for each record and a last line.
+#![tactic(auto)]
+
 mod input;
 mod output;
 mod place;

@@ -3,7 +3,7 @@ ghost use Rattle.std.specs.Prelude.{◌≡◌, ◌+◌, ◌≤◌, true, false};
 ghost use Rattle.journal.specs.Stands.{input_length, Stands, used_of, refilled_of};
 
 // `from` is the first byte that is not used, and `filled` is behind the last that has arrived.
-#[derive(Drop)]
+#[derive(Clone, Copy)]
 pub struct Place {
     pub from: usize,
     pub filled: usize,

@@ -1,4 +1,6 @@
 // Prints several journals that it holds in memory, each under a title: one for each ending, and those at a limit.
+#![tactic(auto)]
+
 mod shown;
 
 use crate::shown::show;

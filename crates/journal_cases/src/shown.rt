@@ -6,7 +6,7 @@ use libc::STDOUT_FILENO;
 use rows::calls::programme_start;
 use rows::numbers::{BLOCKS_LENGTH, RETAINED_LENGTH, START_LENGTH, TIMINGS_LENGTH};
 
-#[derive(Drop)]
+#[derive(Clone, Copy)]
 pub struct Place {
     pub from: usize,
     pub records: u64,

@@ -1,4 +1,6 @@
 // The journal as a library: bytes to records, records to replies, replies to lines.
+#![tactic(auto)]
+
 pub mod buffers;
 pub mod lines;
 pub mod prints;

@@ -12,7 +12,7 @@ use rows::numbers::ACCEPTED;
 pub const LINE_LENGTH: usize = 129;
 
 // The specification's endings; in a fault the input could not be read on from this offset.
-#[derive(Drop)]
+#[derive(Clone, Copy)]
 pub enum Ending {
     Complete,
     Torn(u64),

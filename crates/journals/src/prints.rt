@@ -8,7 +8,7 @@ use crate::lines::{LINE_LENGTH, put_line};
 use crate::turns::{Turn, advance};
 
 // A line: how many bytes its record has, and how many the line. Else nothing was changed.
-#[derive(Drop)]
+#[derive(Clone, Copy)]
 pub enum Printed {
     Line { used: usize, length: usize },
     More,

@@ -9,7 +9,7 @@ const MARK_LENGTH: usize = 2;
 // A payload's 16-bit big-endian length follows its mark.
 const PAYLOAD_AT: usize = 4;
 
-#[derive(Drop)]
+#[derive(Clone, Copy)]
 pub enum Kind {
     Payload,
     Gap,
@@ -18,7 +18,7 @@ pub enum Kind {
 }
 
 // A whole record: its body begins at `body`, and the next record at `end`. Only a payload's body is not empty.
-#[derive(Drop)]
+#[derive(Clone, Copy)]
 pub enum Found {
     Whole { kind: Kind, body: usize, end: usize },
     More,

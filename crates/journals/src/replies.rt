@@ -15,7 +15,7 @@ use rows::calls::{gap, programme_start, reset};
 use rows::numbers::ACCEPTED;
 
 // The numbers of a decoding, wide enough for any of them.
-#[derive(Drop)]
+#[derive(Clone, Copy)]
 pub struct Answer {
     pub number: u64,
     pub context: u64,
@@ -26,7 +26,7 @@ pub struct Answer {
     pub unsettled: u64,
 }
 
-#[derive(Drop)]
+#[derive(Clone, Copy)]
 pub enum Reply {
     Answered(Answer),
     Noted,

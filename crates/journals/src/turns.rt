@@ -7,7 +7,7 @@ use crate::records::{Found, step};
 use crate::replies::{Reply, reply_to};
 
 // A record that was answered had so many bytes: the next turn begins behind them.
-#[derive(Drop)]
+#[derive(Clone, Copy)]
 pub enum Turn {
     Replied(Reply, usize),
     More,

@@ -18,14 +18,14 @@ const OBJECT_ELEMENT_ID: u32 = 1;
 const TRIM_ELEMENT_ID: u32 = 2;
 
 // The number of blocks, once an object element was read.
-#[derive(Drop)]
+#[derive(Clone, Copy)]
 pub enum Found {
     Nothing,
     Blocks(u32),
 }
 
 // What the elements so far gave.
-#[derive(Drop)]
+#[derive(Clone, Copy)]
 pub enum Elements {
     Read(Found, BitPlace),
     Refused(Refusal),

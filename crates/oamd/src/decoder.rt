@@ -16,7 +16,7 @@ use rows::numbers::{
 use rows::retained::keep_rows;
 use rows::table::{clear, clear_timings};
 
-#[derive(Drop)]
+#[derive(Clone, Copy)]
 pub struct Frame {
     pub objects: u32,
     pub blocks: u32,
@@ -24,7 +24,7 @@ pub struct Frame {
 }
 
 // A refusal of the payload stands at a place of it; a number alone says why it was not read.
-#[derive(Drop)]
+#[derive(Clone, Copy)]
 pub enum Decoded {
     Accepted(Frame),
     Refused(Refusal),

@@ -12,7 +12,7 @@ use cursor::read_extended;
 const MAX_OAMD_ELEMENTS: u32 = 31;
 
 // The id, the place where it stands, where the element ends, and where its content begins.
-#[derive(Drop)]
+#[derive(Clone, Copy)]
 pub struct Head {
     pub id: u32,
     pub at: BitPlace,
@@ -20,14 +20,14 @@ pub struct Head {
     pub content: BitPlace,
 }
 
-#[derive(Drop)]
+#[derive(Clone, Copy)]
 pub enum ReadHead {
     Is(Head),
     Refused(Refusal),
 }
 
 // The place where the element ends, and the place after its size.
-#[derive(Drop)]
+#[derive(Clone, Copy)]
 enum ElementEnd {
     At(BitPlace, BitPlace),
     Refused(Refusal),

@@ -13,7 +13,7 @@ use crate::element::{ReadHead, read_element_head};
 use bits::BitPlace;
 
 // How many elements there are, where the first begins, and whether each has alternate data.
-#[derive(Drop)]
+#[derive(Clone, Copy)]
 pub struct ElementList {
     pub count: u32,
     pub first: BitPlace,

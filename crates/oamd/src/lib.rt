@@ -1,4 +1,6 @@
 // The decoder: trim, elements, the whole payload, and the call over the lent tables.
+#![tactic(auto)]
+
 mod content;
 mod contexts;
 pub mod decoder;

@@ -20,7 +20,7 @@ use bits::{BitPlace, ByteCount, Flag, Number, Passed, Refusal};
 use rows::numbers::OBJECT_LIMIT;
 
 // The number of objects and of blocks.
-#[derive(Drop)]
+#[derive(Clone, Copy)]
 pub enum Payload {
     Frame(u32, u32),
     Refused(Refusal),

@@ -1,4 +1,6 @@
 // The object element: its timings, and the rows of each object in each block.
+#![tactic(auto)]
+
 ghost use Rattle.std.specs.Prelude.{map, length};
 ghost use Rattle.standard.specs.Syntax.{object_element};
 ghost use Rattle.standard.specs.Tables.{rows_of};
@@ -14,7 +16,7 @@ mod timings;
 mod walk;
 
 // The number of blocks, and the place after the element.
-#[derive(Drop)]
+#[derive(Clone, Copy)]
 pub enum Element {
     Blocks(u32, BitPlace),
     Refused(Refusal),

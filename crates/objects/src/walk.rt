@@ -13,7 +13,7 @@ use rows::table::{gain_at, put_row, row_at};
 use update::{UpdateRead, apply, read_update};
 
 // The rows of one object, of a kind: its place among so many objects, in each of so many blocks.
-#[derive(Drop)]
+#[derive(Clone, Copy)]
 struct Column {
     kind: i16,
     object: usize,

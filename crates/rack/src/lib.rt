@@ -1,4 +1,6 @@
 // What a rack links: the public calls under their C names, and nothing else.
+#![tactic(auto)]
+
 ghost use Rattle.std.specs.Prelude.{◌≡◌};
 ghost use Rattle.standard.specs.Calls as calls;
 ghost use Rattle.standard.specs.CarriedCalls as edge;

@@ -1,4 +1,6 @@
 // Replays the oracle's fixed list from standard input: each record goes through the decoder, and every number is compared.
+#![tactic(auto)]
+
 mod lengths;
 mod list;
 mod others;

@@ -1,7 +1,7 @@
 // Numbers that are not what they should be: how many, and where the first stands.
 use crate::list::{byte_at, pair_at, signed};
 
-#[derive(Drop)]
+#[derive(Clone, Copy)]
 pub struct Others {
     pub count: u64,
     pub first: usize,

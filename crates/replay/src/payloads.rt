@@ -6,7 +6,7 @@ use oamd::Decoded;
 use rows::numbers::{RETAINED_HEAD, RETAINED_LENGTH, ROW_WIDTH};
 
 // The numbers of an answer, as the specification gives them for each case.
-#[derive(Drop)]
+#[derive(Clone, Copy)]
 struct Given {
     number: usize,
     context: usize,

@@ -18,7 +18,7 @@ pub const BLOCKS: u8 = 3;
 
 pub const RETAINED: u8 = 4;
 
-#[derive(Drop)]
+#[derive(Clone, Copy)]
 pub struct Tally {
     pub sequences: u64,
     pub payloads: u64,

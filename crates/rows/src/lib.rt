@@ -1,4 +1,6 @@
 // Rows of the lent tables: read, written, cleared, copied and tested, and the calls that need nothing else.
+#![tactic(auto)]
+
 pub mod calls;
 pub mod form;
 pub mod numbers;

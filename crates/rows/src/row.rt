@@ -36,20 +36,20 @@ pub fn kind_of(number: i16) -> i16
     if is_dynamic(number) { DYNAMIC } else { number }
 }
 
-#[derive(Drop)]
+#[derive(Clone, Copy)]
 pub struct Point {
     pub x: i16,
     pub y: i16,
     pub z: i16,
 }
 
-#[derive(Drop)]
+#[derive(Clone, Copy)]
 pub struct Zone {
     pub zone: i16,
     pub elevation: i16,
 }
 
-#[derive(Drop)]
+#[derive(Clone, Copy)]
 pub struct Size {
     pub width: i16,
     pub depth: i16,
@@ -57,7 +57,7 @@ pub struct Size {
 }
 
 // Point and distance are the paper's position. As one struct they would be moved as eight bytes, and taken apart again.
-#[derive(Drop)]
+#[derive(Clone, Copy)]
 pub struct Picture {
     pub point: Point,
     pub distance: i16,
@@ -67,7 +67,7 @@ pub struct Picture {
     pub lock: i16,
 }
 
-#[derive(Drop)]
+#[derive(Clone, Copy)]
 pub struct Row {
     pub kind: i16,
     pub active: i16,

@@ -8,13 +8,13 @@ ghost use Rattle.shown.specs.Promises.{Stands};
 use rows::numbers::{HEIGHT_LIMIT, PRIORITY_LIMIT, SIDE_LIMIT, SILENCE, SIZE_LIMIT};
 use rows::row::{LFE, Row};
 
-#[derive(Drop)]
+#[derive(Clone, Copy)]
 pub enum Gain {
     Silence,
     Decibels(f32),
 }
 
-#[derive(Drop)]
+#[derive(Clone, Copy)]
 pub struct Shown {
     pub x: f32,
     pub y: f32,
@@ -27,13 +27,13 @@ pub struct Shown {
 }
 
 // What is shown of a row, or why there is nothing.
-#[derive(Drop)]
+#[derive(Clone, Copy)]
 pub enum View {
     Row(Shown),
     Refused(u32),
 }
 
-#[derive(Drop)]
+#[derive(Clone, Copy)]
 struct Place {
     x: f32,
     y: f32,

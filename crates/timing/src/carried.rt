@@ -12,7 +12,7 @@ use rows::numbers::{OBJECT_LIMIT, ROW_WIDTH};
 use rows::table::kind_at;
 
 // How many objects, what has elapsed at the frame's sample 0, and of how much. A duration of 0 says that nothing is carried.
-#[derive(Drop)]
+#[derive(Clone, Copy)]
 pub struct Going {
     pub objects: u16,
     pub elapsed: u16,

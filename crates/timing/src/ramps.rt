@@ -13,7 +13,7 @@ use crate::updates::timing_at;
 use rows::numbers::{BLOCK_LIMIT, FORM, ROOM};
 
 // From one row to another: row 0 is the start row, row b + 1 that of block b, and row 9 that of a carried ramp.
-#[derive(Drop)]
+#[derive(Clone, Copy)]
 pub struct Choice {
     pub from: u32,
     pub to: u32,
@@ -22,7 +22,7 @@ pub struct Choice {
 }
 
 // A choice with its fraction, or why there is none.
-#[derive(Drop)]
+#[derive(Clone, Copy)]
 pub enum Ramp {
     Chosen(Choice, f32),
     Refused(u32),

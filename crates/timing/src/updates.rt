@@ -9,7 +9,7 @@ ghost use Rattle.timing.specs.Blocks.{timing_at};
 use crate::numbers::{CROSS_FRAME, ORDERING, OVERLAP, SAMPLES_PER_JOC_FRAME};
 use rows::numbers::ACCEPTED;
 
-#[derive(Drop)]
+#[derive(Clone, Copy)]
 pub struct OamdTiming {
     pub start_sample: u16,
     pub ramp_duration: u16,

@@ -16,14 +16,14 @@ use crate::words::Basic;
 use bits::{BitPlace, Flag, Number, Refusal, Signed, is_set};
 use rows::numbers::{HIGHEST_GAIN, PRIORITY_LIMIT, SILENCE};
 
-#[derive(Drop)]
+#[derive(Clone, Copy)]
 pub enum BasicRead {
     Words(BitPlace, Basic),
     Refused(Refusal),
 }
 
 // Whether the gain is copied, and the level where it is not.
-#[derive(Drop)]
+#[derive(Clone, Copy)]
 enum Gained {
     Is(BitPlace, bool, i16),
     Refused(Refusal),

@@ -1,4 +1,6 @@
 // One object in one block: the words that are said of it, and what they do to its row.
+#![tactic(auto)]
+
 ghost use Rattle.std.specs.Prelude.{◌≡◌, cond};
 ghost use Rattle.bits.specs.Parsed.{pure};
 ghost use Rattle.bits.specs.Say.{said_passed};
@@ -29,7 +31,7 @@ use words::Render;
 pub use words::Update;
 
 // The words and the place after them, or the refusal.
-#[derive(Drop)]
+#[derive(Clone, Copy)]
 pub enum UpdateRead {
     Words(BitPlace, Update),
     Refused(Refusal),

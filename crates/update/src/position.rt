@@ -19,14 +19,14 @@ use rows::numbers::{INFINITY, SIDE_LIMIT};
 use rows::row::Point;
 
 // Whether the point is by steps, and the point or the steps.
-#[derive(Drop)]
+#[derive(Clone, Copy)]
 enum Pointed {
     Is(BitPlace, bool, Point),
     Refused(Refusal),
 }
 
 // The same behind the distance.
-#[derive(Drop)]
+#[derive(Clone, Copy)]
 pub enum Located {
     Is(BitPlace, i16, bool, Point),
     Refused(Refusal),

@@ -23,19 +23,19 @@ use bits::{BitPlace, Flag, Number, Refusal, is_set};
 use rows::numbers::ZONE_LIMIT;
 use rows::row::{Size, Zone};
 
-#[derive(Drop)]
+#[derive(Clone, Copy)]
 pub enum RenderRead {
     Words(BitPlace, Render),
     Refused(Refusal),
 }
 
-#[derive(Drop)]
+#[derive(Clone, Copy)]
 enum Zoned {
     Is(BitPlace, Zone),
     Refused(Refusal),
 }
 
-#[derive(Drop)]
+#[derive(Clone, Copy)]
 enum Sized {
     Is(BitPlace, Size),
     Refused(Refusal),

@@ -4,7 +4,7 @@ use rows::row::{Point, Size, Zone};
 
 // A flag tells whether a word was said, the gain first. One that was not is 0, and its place says nothing. A copied gain
 // is that of the object before.
-#[derive(Drop)]
+#[derive(Clone, Copy)]
 pub struct Basic {
     pub flags: u32,
     pub copied: bool,
@@ -15,7 +15,7 @@ pub struct Basic {
 }
 
 // Flags as above: position, zone, size, screen. A lock is always said. The position is a distance, and a point or steps.
-#[derive(Drop)]
+#[derive(Clone, Copy)]
 pub struct Groups {
     pub flags: u32,
     pub distance: i16,
@@ -33,7 +33,7 @@ pub struct Groups {
 }
 
 // The default picture is said by the status at a place.
-#[derive(Drop)]
+#[derive(Clone, Copy)]
 pub enum Render {
     Default(BitPlace),
     Kept,
@@ -41,7 +41,7 @@ pub enum Render {
 }
 
 // An object is inactive by the flag at a place.
-#[derive(Drop)]
+#[derive(Clone, Copy)]
 pub enum Update {
     Inactive(BitPlace),
     Active(Basic, Render),

@@ -30,13 +30,13 @@ loop-holds : tie.Need-loop-init invariant-loop decreases-loop
 unfolding field
 loop-holds c = (omega arith, (omega arith, refl))
 
-mul-value : tie.Need-overflow-mul-value invariant-loop decreases-loop
+mul-value : tie.Need-overflow_mul-value invariant-loop decreases-loop
 mul-value c =
     let a = c.before.before.before.before.args in
     let l = c.before.loop in
     rw l.invariant.1.1 (omega (arith, small a.payload.now (a.from / 8 * 8) l.fetched (omega arith)))
 
-add-value : tie.Need-overflow-add-value invariant-loop decreases-loop
+add-value : tie.Need-overflow_add-value invariant-loop decreases-loop
 add-value c =
     let a = c.before.before.before.before.before.args in
     let l = c.before.before.loop in

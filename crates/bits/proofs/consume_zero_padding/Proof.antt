@@ -16,7 +16,7 @@ invariant-loop payload limit context place₀ place =
 abbrev decreases-loop : tie.decreases-loop
 decreases-loop payload limit context place₀ place = limit.0 - place
 
-zeros-before-requires : tie.Need-zeros-before-requires invariant-loop decreases-loop
+zeros-before-requires : tie.Need-zeros_before-requires invariant-loop decreases-loop
 zeros-before-requires c κs =
     let b = c.before in
     (omega (arith, c.if2.true), (omega arith, rw b.bits-from.ensures (field_lt _ _ _)))

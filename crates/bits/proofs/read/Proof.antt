@@ -22,7 +22,7 @@ read-skip w c s e p = go (leb (p + w) e) _
     go true r = refl
     go false r = refl
 
-bits-from-requires : tie.Need-bits-from-requires
+bits-from-requires : tie.Need-bits_from-requires
 bits-from-requires c κs =
     omega (arith, told said_passed (skip-tells _ _) (c.before.before.before.skip.ensures []) c.before.end.given.1)
 

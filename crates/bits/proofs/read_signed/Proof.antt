@@ -10,7 +10,7 @@ use Rattle.bits.proofs.Laws.{gives}
 use Rattle.bits.proofs.read_signed.Statement.{statement}
 use Rattle.bits.proofs.read_signed.Tie as tie
 
-with-sign-requires : tie.Need-with-sign-requires
+with-sign-requires : tie.Need-with_sign-requires
 with-sign-requires c κs = (search rules, gives said (read-lt _ _) c.before.before.before.read.ensures c.before.value.given.1)
 
 returns : tie.Need-returns

@@ -61,7 +61,7 @@ start c =
 first_bit : (c : tie.After-limit invariant-loop decreases-loop) → c.limit.result.place.0 ≡ c.before.before.before.before.before.before.before.args.at.0
 first_bit c = ap (λ r. r.place) c.limit.ensures
 
-at_flag : (c : tie.After-read-flag invariant-loop decreases-loop) →
+at_flag : (c : tie.After-read_flag invariant-loop decreases-loop) →
     let l = c.before in
     whole (entry l) ≡ and_then (said_flag c.read-flag.result) (left_after (entry l) (4 - l.loop.groups) l.loop.value)
 at_flag c =

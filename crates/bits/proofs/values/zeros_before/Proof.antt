@@ -28,7 +28,7 @@ highest n w h f l =
       first = omega (arith, low, high);
     }
 
-sub-result-2 : tie.Need-overflow-sub-result-2
+sub-result-2 : tie.Need-overflow_sub-result-2
 sub-result-2 c =
     let t = highest c.args.number c.args.width (omega arith) (omega arith) (omega arith) in
     omega (arith, t.count, t.inside)

@@ -1,7 +1,7 @@
 -- Numbers of variable length: their groups one at a time, and how large they grow.
 use Prim.Native.Nat.{ℕ, zero, suc, ◌+◌, ◌*◌, ◌^◌, ◌≤◌, ◌<◌}
 use mathlib.Core.Path.{◌≡◌, refl}
-use mathlib.Core.Bool.{Bool, true, false}
+use mathlib.Core.Bool.{Bool, true, false, cond}
 use mathlib.Core.List.{List}
 use native.Mathlib.Nat.{mul-le-mul_left}
 use native.Mathlib.Omega.{arith}
@@ -23,8 +23,13 @@ module _ (w c first v : ℕ) (s : List ℕ) (e : ℕ) where
 
   pub later-groups : (n p : ℕ) → later_groups w c first n v s e p ≡ and_then (flag c s e p) (after_flag n)
   unfolding later_groups ◌>>=◌ pure refuse refused_as
-  later-groups zero p = then-got (flag c s e p) _ _ (λ more q. elim more [ true ↦ refl | false ↦ refl ])
-  later-groups (suc n) p = then-got (flag c s e p) _ _ (λ more q. elim more [ true ↦ refl | false ↦ refl ])
+  later-groups zero p =
+      then-got (flag c s e p) _ _ λ more q.
+      elim more as (λ b. cond b (refuse (limit c first)) (pure v) s e q ≡ after_flag 0 b q) [ true ↦ refl | false ↦ refl ]
+  later-groups (suc n) p =
+      then-got (flag c s e p) _ _ λ more q.
+      elim more as (λ b. cond b (refused_as (limit c first) (read w c) >>= λ next. later_groups w c first n (v * 2 ^ w + 2 ^ w + next)) (pure v) s e q ≡ after_flag (suc n) b q)
+      [ true ↦ refl | false ↦ refl ]
 
 -- the largest number that n more groups of 4 bits can make of v
 abbrev pub largest : ℕ → ℕ → ℕ
@@ -68,14 +73,14 @@ module _ {A : Type 0} {P : A → Type 0} where
 module _ (w c : ℕ) where
   later-tells : (first n v : ℕ) → Tells Onward (later_groups w c first n v)
   unfolding later_groups
-  later-tells first zero v = follows _ (onward (flag-tells c)) λ more. chosen more (refuses _) (stays v)
+  later-tells first zero v = follows _ (onward 1 c (flag-tells c)) λ more. chosen more (refuses _) (stays v)
   later-tells first (suc n) v =
-      follows _ (onward (flag-tells c)) λ more. chosen more
-      (within (follows _ (instead _ (onward (read-tells w c))) λ next. within (later-tells first n _))) (stays v)
+      follows _ (onward 1 c (flag-tells c)) λ more. chosen more
+      (within (follows _ (instead _ (onward w c (read-tells w c))) λ next. within (later-tells first n _))) (stays v)
 
   pub variable-tells : (n : ℕ) → Tells Onward (variable_bits w n c)
   unfolding variable_bits ◌>>=◌ here
-  variable-tells n = record { tells = λ s e p. (follows _ (onward (read-tells w c)) (λ v. within (later-tells p n v))).tells s e p }
+  variable-tells n = record { tells = λ s e p. (follows _ (onward w c (read-tells w c)) (λ v. within (later-tells p n v))).tells s e p }
 
   module _ (h : w ≤ 4) where
     later-lt : (first n v : ℕ) → Small n v → Always (λ x. x < 69904) (later_groups w c first n v)

@@ -38,7 +38,7 @@ pub read-tells : (w c : ℕ) → Tells (Run w c) (read w c)
 unfolding read
 read-tells w c = record { tells = λ s e p. run (field s p w) w c s e p }
 
-module _ {A B : Type 0} {w c : ℕ} where
+module _ {A B : Type 0} (w c : ℕ) where
   mapped : (f : A → B) {m : Parser A} → Tells (Run w c) m → Tells (Run w c) (map_p f m)
   unfolding map_p
   mapped f {m} h = record { tells = λ s e p. go s e p (m s e p) (h.tells s e p) }
@@ -49,11 +49,11 @@ module _ {A B : Type 0} {w c : ℕ} where
 
 pub flag-tells : (c : ℕ) → Tells (Run 1 c) (flag c)
 unfolding flag
-flag-tells c = mapped _ (read-tells 1 c)
+flag-tells c = mapped 1 c _ (read-tells 1 c)
 
 pub signed-tells : (w c : ℕ) → Tells (Run w c) (read_signed w c)
 unfolding read_signed
-signed-tells w c = mapped _ (read-tells w c)
+signed-tells w c = mapped w c _ (read-tells w c)
 
 -- the next place is not before the place, and not past the end
 module _ {A : Type 0} where
@@ -70,8 +70,8 @@ module _ {A : Type 0} where
   from s e p q (got a q') l h k = omega arith
   from s e p q (refused r) l h k = tt
 
-  pub onward : {w c : ℕ} {m : Parser A} → Tells (Run w c) m → Tells Onward m
-  onward {w} {c} {m} h = record { tells = λ s e p. go s e p (m s e p) (h.tells s e p) }
+  pub onward : (w c : ℕ) {m : Parser A} → Tells (Run w c) m → Tells Onward m
+  onward w c {m} h = record { tells = λ s e p. go s e p (m s e p) (h.tells s e p) }
     where
       go : (s : List ℕ) (e p : ℕ) (x : Parsed A) → Run w c s e p x → Onward s e p x
       go s e p (got a q) k = omega arith

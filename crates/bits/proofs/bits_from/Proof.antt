@@ -11,56 +11,47 @@ use Rattle.bits.proofs.Covered.{byte_more, field-within}
 use Rattle.bits.proofs.bits_from.Statement.{statement}
 use Rattle.bits.proofs.bits_from.Tie as tie
 
-abbrev invariant-loop : tie.invariant-loop
+abbrev invariant-loop : tie.invariant-loop-fetched
 invariant-loop payload from width end behind index₀ fetched₀ value₀ index fetched value =
     (from / 8 * 8 + fetched ≡ index * 8) × ((fetched < end + 8) × (value ≡ field payload (from / 8 * 8) fetched))
 
-abbrev decreases-loop : tie.decreases-loop
+abbrev decreases-loop : tie.decreases-loop-fetched
 decreases-loop payload from width end behind index₀ fetched₀ value₀ index fetched value = end - fetched
 
 -- what was fetched before the last byte has 16 bits at most
 small : (s : List ℕ) (p w : ℕ) → w ≤ 16 → field s p w < 2 ^ 16
 small s p w h = omega (arith, field_lt s p w, pow_mono h)
 
-returns : tie.Need-returns invariant-loop decreases-loop
+returns : tie.Need-returns-then-width-eq0 invariant-loop decreases-loop
 unfolding field
-returns c = rw c.if1.true
+returns c = rw c.if-width-eq0.true
 
-loop-holds : tie.Need-loop-init invariant-loop decreases-loop
+loop-holds : tie.Need-loop-fetched-init invariant-loop decreases-loop
 unfolding field
 loop-holds c = (omega arith, (omega arith, refl))
 
 mul-value : tie.Need-overflow_mul-value invariant-loop decreases-loop
 mul-value c =
-    let a = c.before.before.before.before.args in
-    let l = c.before.loop in
-    rw l.invariant.1.1 (omega (arith, small a.payload.now (a.from / 8 * 8) l.fetched (omega arith)))
+    rw c.loop-fetched.invariant.1.1 (omega (arith, small c.args.payload.now (c.args.from / 8 * 8) c.loop-fetched.fetched (omega arith)))
 
 add-value : tie.Need-overflow_add-value invariant-loop decreases-loop
 add-value c =
-    let a = c.before.before.before.before.before.args in
-    let l = c.before.before.loop in
-    rw l.invariant.1.1 (omega (arith, small a.payload.now (a.from / 8 * 8) l.fetched (omega arith)))
+    rw c.loop-fetched.invariant.1.1 (omega (arith, small c.args.payload.now (c.args.from / 8 * 8) c.loop-fetched.fetched (omega arith)))
 
-loop-again : tie.Need-loop-preserved invariant-loop decreases-loop
+loop-again : tie.Need-loop-fetched-preserved invariant-loop decreases-loop
 loop-again c =
-    let a = c.before.before.before.before.before.args in
-    let l = c.before.before.loop in
-    let b = c.byte_at.ensures in
-    (omega arith, (omega arith, rw (l.invariant.1.1, b) (sym (byte_more a.payload.now (a.from / 8 * 8) l.fetched l.index l.invariant.0 (rw (← b) (omega arith))))))
+    (omega arith, (omega arith, rw (c.loop-fetched.invariant.1.1, c.byte_at.ensures) (sym (byte_more c.args.payload.now (c.args.from / 8 * 8) c.loop-fetched.fetched c.loop-fetched.index c.loop-fetched.invariant.0 (rw (← c.byte_at.ensures) (omega arith))))))
 
-returns-2 : tie.Need-returns-2 invariant-loop decreases-loop
+returns-2 : tie.Need-returns invariant-loop decreases-loop
 returns-2 c =
-    let a = c.before.before.before.before.before.args in
-    let l = c.before.before.loop in
-    let e : a.from ≡ a.from / 8 * 8 + a.from % 8 = omega arith in
-    let b : 7 - (a.from + a.width - 1) % 8 ≡ l.fetched - (a.from % 8 + a.width) = omega arith in
-    let w = field-within a.payload.now (a.from / 8 * 8) (a.from % 8) a.width l.fetched (omega arith) in
-    rw (c.cut.ensures, l.invariant.1.1)
-    (ap (λ k. field a.payload.now (a.from / 8 * 8) l.fetched / 2 ^ k % 2 ^ a.width) b ∙ sym (ap (λ p. field a.payload.now p a.width) e ∙ w))
+    let e : c.args.from ≡ c.args.from / 8 * 8 + c.args.from % 8 = omega arith in
+    let b : 7 - (c.args.from + c.args.width - 1) % 8 ≡ c.loop-fetched.fetched - (c.args.from % 8 + c.args.width) = omega arith in
+    let w = field-within c.args.payload.now (c.args.from / 8 * 8) (c.args.from % 8) c.args.width c.loop-fetched.fetched (omega arith) in
+    rw (c.cut.ensures, c.loop-fetched.invariant.1.1)
+    (ap (λ k. field c.args.payload.now (c.args.from / 8 * 8) c.loop-fetched.fetched / 2 ^ k % 2 ^ c.args.width) b ∙ sym (ap (λ p. field c.args.payload.now p c.args.width) e ∙ w))
 
-pub bits-from-spec : {M : Type 1} → statement M
-bits-from-spec =
+pub bits_from_spec : {M : Type 1} → statement M
+bits_from_spec =
     tie.close
     (tie.spec
     invariant-loop

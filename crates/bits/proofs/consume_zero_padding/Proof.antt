@@ -9,35 +9,31 @@ use Rattle.bits.proofs.Padding.{padding-ends, padding-passes, padding-stops}
 use Rattle.bits.proofs.consume_zero_padding.Statement.{statement}
 use Rattle.bits.proofs.consume_zero_padding.Tie as tie
 
-abbrev invariant-loop : tie.invariant-loop
+abbrev invariant-loop : tie.invariant-loop-place
 invariant-loop payload limit context place₀ place =
     padding context payload limit.0 place ≡ padding context payload limit.0 place₀
 
-abbrev decreases-loop : tie.decreases-loop
+abbrev decreases-loop : tie.decreases-loop-place
 decreases-loop payload limit context place₀ place = limit.0 - place
 
 zeros-before-requires : tie.Need-zeros_before-requires invariant-loop decreases-loop
 zeros-before-requires c κs =
-    let b = c.before in
-    (omega (arith, c.if2.true), (omega arith, rw b.bits-from.ensures (field_lt _ _ _)))
+    (omega (arith, c.if-rest-ne0.true), (omega arith, rw c.bits_from-rest.ensures (field_lt _ _ _)))
 
-returns : tie.Need-returns invariant-loop decreases-loop
+returns : tie.Need-returns-then-rest-ne0 invariant-loop decreases-loop
 returns c =
-    let b = c.before.before.before in
-    let z = c.before.zeros-before.ensures in
-    rw (c.invalid.ensures, ← b.before.before.before.before.before.loop.invariant)
-    (sym (padding-stops _ _ _ _ b.before.least.result _ (omega arith) z.0 (rw (← b.bits-from.ensures) z.1)))
+    rw (c.invalid.ensures, ← c.loop-place.invariant)
+    (sym (padding-stops _ _ _ _ c.least-width.result _ (omega arith) c.zeros_before.ensures.0 (rw (← c.bits_from-rest.ensures) c.zeros_before.ensures.1)))
 
-loop-again : tie.Need-loop-preserved invariant-loop decreases-loop
+loop-again : tie.Need-loop-place-preserved invariant-loop decreases-loop
 loop-again c =
-    let b = c.before in
-    sym (padding-passes _ _ _ _ b.before.least.result (omega arith) (sym b.bits-from.ensures ∙ c.if2.false)) ∙ b.before.before.before.before.before.loop.invariant
+    sym (padding-passes _ _ _ _ c.least-width.result (omega arith) (sym c.bits_from-rest.ensures ∙ c.if-rest-ne0.false)) ∙ c.loop-place.invariant
 
-returns-2 : tie.Need-returns-2 invariant-loop decreases-loop
-returns-2 c = sym (padding-ends _ _ _ _ (omega arith)) ∙ c.before.before.loop.invariant
+returns-2 : tie.Need-returns invariant-loop decreases-loop
+returns-2 c = sym (padding-ends _ _ _ _ (omega arith)) ∙ c.loop-place.invariant
 
-pub consume-zero-padding-spec : {M : Type 1} → statement M
-consume-zero-padding-spec =
+pub consume_zero_padding_spec : {M : Type 1} → statement M
+consume_zero_padding_spec =
     tie.close
     (tie.spec
     invariant-loop

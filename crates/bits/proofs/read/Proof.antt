@@ -24,14 +24,14 @@ read-skip w c s e p = go (leb (p + w) e) _
 
 bits-from-requires : tie.Need-bits_from-requires
 bits-from-requires c κs =
-    omega (arith, told said_passed (skip-tells _ _) (c.before.before.before.skip.ensures []) c.before.end.given.1)
+    omega (arith, told said_passed (skip-tells _ _) (c.skip.ensures []) c.in-To.is)
 
-returns : tie.Need-returns
+returns : tie.Need-returns-in-To
 returns c =
-    rw (c.bits-from.ensures, read-skip, ← (c.before.before.before.before.skip.ensures _), c.before.before.end.given.1)
+    rw (c.bits_from.ensures, read-skip, ← (c.skip.ensures _), c.in-To.is)
 
-returns-2 : tie.Need-returns-2
-returns-2 c = rw (read-skip, ← (c.before.before.before.skip.ensures _), c.before.refusal.given.1)
+returns-2 : tie.Need-returns-in-Refused
+returns-2 c = rw (read-skip, ← (c.skip.ensures _), c.in-Refused.is)
 
 pub read_spec : {M : Type 1} → statement M
 read_spec =

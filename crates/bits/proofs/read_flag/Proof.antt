@@ -5,13 +5,13 @@ use Rattle.bits.specs.Reads.{flag}
 use Rattle.bits.proofs.read_flag.Statement.{statement}
 use Rattle.bits.proofs.read_flag.Tie as tie
 
-pub read-flag-spec : {M : Type 1} → statement M
+pub read_flag_spec : {M : Type 1} → statement M
 unfolding flag map_p
-read-flag-spec =
+read_flag_spec =
     tie.close
     (tie.spec
     (λ c κs. search rules)
     (λ c. search rules)
     (λ c. search rules)
-    (λ c. rw (← c.before.before.before.read.ensures, c.before.value.given.1))
-    (λ c. rw (← c.before.before.before.read.ensures, c.before.refusal.given.1)))
+    (λ c. rw (← c.read.ensures, c.in-Value.is))
+    (λ c. rw (← c.read.ensures, c.in-Refused.is)))

@@ -11,18 +11,17 @@ use Rattle.bits.proofs.read_signed.Statement.{statement}
 use Rattle.bits.proofs.read_signed.Tie as tie
 
 with-sign-requires : tie.Need-with_sign-requires
-with-sign-requires c κs = (search rules, gives said (read-lt _ _) c.before.before.before.read.ensures c.before.value.given.1)
+with-sign-requires c κs = (search rules, gives said (read-lt _ _) c.read.ensures c.in-Value.is)
 
-returns : tie.Need-returns
+returns : tie.Need-returns-in-Value
 unfolding read_signed map_p
 returns c =
-    let v = c.before.before in
-    rw (to_z-of_z {w = w16} (record { sfits = c.with-sign.type-inv }), c.with-sign.ensures, ← v.before.before.read.ensures, v.value.given.1)
+    rw (to_z-of_z {w = w16} (record { sfits = c.with_sign.type_inv }), c.with_sign.ensures, ← c.read.ensures, c.in-Value.is)
 
-returns-2 : tie.Need-returns-2
+returns-2 : tie.Need-returns-in-Refused
 unfolding read_signed map_p
-returns-2 c = rw (← c.before.before.before.read.ensures, c.before.refusal.given.1)
+returns-2 c = rw (← c.read.ensures, c.in-Refused.is)
 
-pub read-signed-spec : {M : Type 1} → statement M
-read-signed-spec =
+pub read_signed_spec : {M : Type 1} → statement M
+read_signed_spec =
     tie.close (tie.spec (λ c κs. search rules) (λ c. search rules) with-sign-requires (λ c. search rules) returns returns-2)

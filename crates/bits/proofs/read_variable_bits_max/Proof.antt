@@ -13,13 +13,13 @@ use Rattle.bits.proofs.Groups.{after_flag, later-groups, Small, small-first, sma
 use Rattle.bits.proofs.read_variable_bits_max.Statement.{statement}
 use Rattle.bits.proofs.read_variable_bits_max.Tie as tie
 
-abbrev invariant-loop : tie.invariant-loop
+abbrev invariant-loop : tie.invariant-loop-refusal
 invariant-loop payload limit width context value₀ place₀ span limited groups₀ value place groups =
     let left = later_groups width context limited.place.0 in
     ((1 ≤ groups) × (groups ≤ 4))
     × (Small (4 - groups) value × (left (4 - groups) value payload limit.0 place.0 ≡ left 3 value₀ payload limit.0 place₀.0))
 
-abbrev decreases-loop : tie.decreases-loop
+abbrev decreases-loop : tie.decreases-loop-refusal
 decreases-loop payload limit width context value₀ place₀ span limited groups₀ value place groups = 4 - groups
 
 -- the number, of the arguments
@@ -36,98 +36,77 @@ abbrev left_after : tie.Start invariant-loop decreases-loop → ℕ → ℕ → 
 left_after c n v =
     after_flag c.args.width c.args.context c.args.at.0 v c.args.payload.now c.args.limit.0 n
 
-abbrev entry : tie.At-loop invariant-loop decreases-loop → tie.Start invariant-loop decreases-loop
-entry c = c.before.before.before.before.before.before.before.before
+abbrev entry : tie.At-loop-refusal invariant-loop decreases-loop → tie.Start invariant-loop decreases-loop
+entry c = c.before.before.before.before.before.before
 
-returns : tie.Need-returns invariant-loop decreases-loop
+returns : tie.Need-returns-in_default invariant-loop decreases-loop
 unfolding variable_bits ◌>>=◌ here
-returns c = rw (← c.before.before.read.ensures, c.enum_told.given.1)
+returns c = rw (← c.read-head.ensures, c.in_default.is)
 
-loop-holds : tie.Need-loop-init invariant-loop decreases-loop
+loop-holds : tie.Need-loop-refusal-init invariant-loop decreases-loop
 loop-holds c =
-    let h = c.before.before.before in
-    let l = gives said (read-lt _ _) h.before.before.read.ensures h.head.given.1 in
+    let l = gives said (read-lt _ _) c.read-head.ensures c.in-Value.is in
     (omega arith, (small-first _ (omega arith) _ l, refl))
 
-start : (c : tie.After-limit invariant-loop decreases-loop) →
-    let h = c.before.before.before in
-    let a = h.before.before.before.before in
-    whole a ≡ left a 3 h.head.given.0.0 h.head.given.0.1.0.0
+start : (c : tie.After-limit-limited invariant-loop decreases-loop) →
+    whole c.before.before.before.before.before ≡ left c.before.before.before.before.before 3 c.in-Value.value c.in-Value.place.0
 unfolding variable_bits ◌>>=◌ here
 start c =
-    let h = c.before.before.before in
-    rw (← h.before.before.read.ensures, h.head.given.1)
+    rw (← c.read-head.ensures, c.in-Value.is)
 
-first_bit : (c : tie.After-limit invariant-loop decreases-loop) → c.limit.result.place.0 ≡ c.before.before.before.before.before.before.before.args.at.0
-first_bit c = ap (λ r. r.place) c.limit.ensures
+first_bit : (c : tie.After-limit-limited invariant-loop decreases-loop) → c.limit-limited.result.place.0 ≡ c.args.at.0
+first_bit c = ap (λ r. r.place) c.limit-limited.ensures
 
 at_flag : (c : tie.After-read_flag invariant-loop decreases-loop) →
-    let l = c.before in
-    whole (entry l) ≡ and_then (said_flag c.read-flag.result) (left_after (entry l) (4 - l.loop.groups) l.loop.value)
+    whole (entry c.before) ≡ and_then (said_flag c.read_flag.result) (left_after (entry c.before) (4 - c.loop-refusal.groups) c.loop-refusal.value)
 at_flag c =
-    let m = c.before.before in
-    rw (c.read-flag.ensures, start m, ← (rw (first_bit m) at c.before.loop.invariant.1.1)) (later-groups _ _ _ _ _ _ _ _)
+    rw (c.read_flag.ensures, start c.before.before, ← (rw (first_bit c.before.before) at c.loop-refusal.invariant.1.1)) (later-groups _ _ _ _ _ _ _ _)
 
-returns-2 : tie.Need-returns-2 invariant-loop decreases-loop
-returns-2 c = rw (at_flag c.before.before.before, c.before.refusal.given.1)
+returns-2 : tie.Need-returns-in-Refused invariant-loop decreases-loop
+returns-2 c = rw (at_flag c.before, c.in-Refused.is)
 
-returns-3 : tie.Need-returns-3 invariant-loop decreases-loop
+returns-3 : tie.Need-returns-then-not-more invariant-loop decreases-loop
 returns-3 c =
-    let m = c.before.before.more.given in
-    rw (at_flag c.before.before.before.before, m.1, not-true m.0.0 c.if1.true)
+    rw (at_flag c.before.before, c.in-Is.is, not-true c.in-Is.more c.if-not-more.true-raw)
 
 -- the flag is set
-at_more : (c : tie.Else1 invariant-loop decreases-loop) →
-    let l = c.before.before.before.before.before in
-    whole (entry l) ≡ left_after (entry l) (4 - l.loop.groups) l.loop.value true c.before.before.more.given.0.1.0.0
+at_more : (c : tie.Else-not-more invariant-loop decreases-loop) →
+    whole (entry c.before.before.before) ≡ left_after (entry c.before.before.before) (4 - c.loop-refusal.groups) c.loop-refusal.value true c.in-Is.next.0
 at_more c =
-    let m = c.before.before.more.given in
-    rw (at_flag c.before.before.before.before, m.1, not-false m.0.0 c.if1.false)
+    rw (at_flag c.before.before, c.in-Is.is, not-false c.in-Is.more c.if-not-more.false-raw)
 
-returns-4 : tie.Need-returns-4 invariant-loop decreases-loop
+returns-4 : tie.Need-returns-then-groups-ge-MAX_VARIABLE_BITS_GROUPS invariant-loop decreases-loop
 returns-4 c =
-    let l = c.before.before.before.before.before.before in
-    let k : 4 - l.loop.groups ≡ 0 = omega arith in
-    rw (l.before.limit.ensures, at_more c.before, k)
+    let k : 4 - c.loop-refusal.groups ≡ 0 = omega arith in
+    rw (c.limit-limited.ensures, at_more c.before, k)
 
-one_less : (c : tie.Else2 invariant-loop decreases-loop) →
-    let l = c.before.before.before.before.before.before.loop in
-    4 - l.groups ≡ suc (4 - (l.groups + 1))
+one_less : (c : tie.Else-groups-ge-MAX_VARIABLE_BITS_GROUPS invariant-loop decreases-loop) →
+    4 - c.loop-refusal.groups ≡ suc (4 - (c.loop-refusal.groups + 1))
 one_less c = omega arith
 
 -- the flag is set, and the group that follows is read
-at_read : (c : tie.After-read2 invariant-loop decreases-loop) →
-    let l = c.before.before.before.before.before.before.before in
-    let a = (entry l).args in
-    let v = l.loop.value * 2 ^ a.width + 2 ^ a.width in
-    whole (entry l)
-    ≡ and_then (instead_of (limit a.context a.at.0) (said c.read2.result)) (λ next q. left (entry l) (4 - (l.loop.groups + 1)) (v + next) q)
-at_read c = rw (at_more c.before.before, one_less c.before, c.read2.ensures)
+at_read : (c : tie.After-read invariant-loop decreases-loop) →
+    let v = c.loop-refusal.value * 2 ^ (entry c.before.before.before.before.before).args.width + 2 ^ (entry c.before.before.before.before.before).args.width in
+    whole (entry c.before.before.before.before.before)
+    ≡ and_then (instead_of (limit (entry c.before.before.before.before.before).args.context (entry c.before.before.before.before.before).args.at.0) (said c.read.result)) (λ next q. left (entry c.before.before.before.before.before) (4 - (c.loop-refusal.groups + 1)) (v + next) q)
+at_read c = rw (at_more c.before.before, one_less c.before, c.read.ensures)
 
-returns-5 : tie.Need-returns-5 invariant-loop decreases-loop
+returns-5 : tie.Need-returns-in_default-read invariant-loop decreases-loop
 returns-5 c =
-    let r = c.before.before in
-    let m = r.before.before.before.before.before.before.before.before in
-    rw (m.limit.ensures, at_read r, c.enum-told2.given.1)
+    rw (c.limit-limited.ensures, at_read c.before, c.in_default-read.is)
 
-next_small : (c : tie.After-known-told4 invariant-loop decreases-loop) →
-    let l = c.before.before.before.before.before.before.before.before.before.before in
-    let span = l.before.before.two_to.result in
-    Small (4 - (l.loop.groups + 1)) (l.loop.value * span + span + c.before.group.given.0.0)
+next_small : (c : tie.In-Value-read invariant-loop decreases-loop) →
+    Small (4 - (c.loop-refusal.groups + 1)) (c.loop-refusal.value * c.two_to-span.result + c.two_to-span.result + c.in-Value-read.group)
 next_small c =
-    let r = c.before.before.before in
-    let l = r.before.before.before.before.before.before.before in
-    let g = gives said (read-lt _ _) r.read2.ensures c.before.group.given.1 in
-    rw l.before.before.two_to.ensures (small-next _ (omega arith) _ _ _ g (rw (one_less r.before) at l.loop.invariant.1.0))
+    let g = gives said (read-lt _ _) c.read.ensures c.in-Value-read.is in
+    rw c.two_to-span.ensures (small-next _ (omega arith) _ _ _ g (rw (one_less c.before.before) at c.loop-refusal.invariant.1.0))
 
-loop-again : tie.Need-loop-preserved invariant-loop decreases-loop
+loop-again : tie.Need-loop-refusal-preserved invariant-loop decreases-loop
 loop-again c =
-    let r = c.before.before.before in
-    let m = r.before.before.before.before.before.before.before.before in
-    (omega arith, (next_small c, rw (m.before.two_to.ensures, first_bit m, ← (start m), at_read r, c.before.group.given.1)))
+    (omega arith, (next_small c, rw (c.two_to-span.ensures, first_bit c.before.before.before.before.before.before.before, ← (start c.before.before.before.before.before.before.before), at_read c.before, c.in-Value-read.is)))
 
-pub read-variable-bits-max-spec : {M : Type 1} → statement M
-read-variable-bits-max-spec =
+pub read_variable_bits_max_spec : {M : Type 1} → statement M
+read_variable_bits_max_spec =
     tie.close
     (tie.spec
     invariant-loop

@@ -9,23 +9,18 @@ use Rattle.bits.proofs.skip_bytes.Statement.{statement}
 use Rattle.bits.proofs.skip_bytes.Tie as tie
 
 -- a count of 4 bits is no more than 16 bytes
-cast-skip : tie.Need-overflow-cast-skip
+cast-skip : tie.Need-overflow_cast-run
 cast-skip c =
-    let b = c.before in
-    let v = b.before.before in
-    omega (arith, b.bits.ensures, gives said (read-lt 4 _) v.before.before.read.ensures v.coded.given.1)
+    omega (arith, c.bits-run.ensures, gives said (read-lt 4 _) c.read.ensures c.in-Value.is)
 
-returns-2 : tie.Need-returns-2
+returns-2 : tie.Need-returns-in-Value
 unfolding skip_bytes ◌>>=◌
 returns-2 c =
-    let b = c.before.before in
-    let v = b.before.before in
-    let r = v.before.before in
-    rw (← r.read.ensures, v.coded.given.1) (rw b.bits.ensures at (c.skip.ensures r.before.before.args.payload.now))
+    rw (← c.read.ensures, c.in-Value.is) (rw c.bits-run.ensures at (c.skip.ensures c.args.payload.now))
 
-pub skip-bytes-spec : {M : Type 1} → statement M
+pub skip_bytes_spec : {M : Type 1} → statement M
 unfolding skip_bytes ◌>>=◌
-skip-bytes-spec =
+skip_bytes_spec =
     tie.close
     (tie.spec
     (λ c κs. search rules)
@@ -36,5 +31,5 @@ skip-bytes-spec =
     (λ c κs. search rules)
     cast-skip
     (λ c κs. search rules)
-    (λ c. rw (← c.before.before.before.read.ensures, c.before.refusal.given.1))
+    (λ c. rw (← c.read.ensures, c.in-Refused.is))
     returns-2)

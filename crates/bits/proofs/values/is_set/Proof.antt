@@ -5,6 +5,6 @@ use Rattle.bits.specs.Bits.{is_set}
 use Rattle.bits.proofs.values.is_set.Statement.{statement}
 use Rattle.bits.proofs.values.is_set.Tie as tie
 
-pub is-set-spec : {M : Type 1} → statement M
+pub is_set_spec : {M : Type 1} → statement M
 unfolding is_set
-is-set-spec = tie.close (tie.spec (λ c. search rules) (λ c. search rules) (λ c. refl))
+is_set_spec = tie.close (tie.spec (λ c. search rules) (λ c. search rules) (λ c. refl))

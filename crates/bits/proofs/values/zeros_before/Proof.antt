@@ -39,8 +39,8 @@ returns c =
     let e : c.args.width - 1 - (c.args.width - (32 - count_leading_zeros 32 c.args.number)) ≡ t.j = omega (arith, t.count, t.inside) in
     (omega (arith, t.count, t.inside), rw e t.first)
 
-pub zeros-before-spec : {M : Type 1} → statement M
-zeros-before-spec =
+pub zeros_before_spec : {M : Type 1} → statement M
+zeros_before_spec =
     tie.close
     (tie.spec
     (λ c. omega (arith, leading_le 32 c.args.number))

@@ -38,9 +38,9 @@ record Room (l : Lent) : Type 0 where
   blocks : blocks_length ≤ length l.blocks
   timings : timings_length ≤ length l.timings
 
-has_room : (l : Lent) → has_room l ≡ true → Room l
+has_room_lem : (l : Lent) → has_room l ≡ true → Room l
 unfolding has_room
-has_room l h =
+has_room_lem l h =
     let a = leb retained_length (length l.retained) in
     let b = leb start_length (length l.start) in
     let c = leb blocks_length (length l.blocks) in
@@ -99,7 +99,7 @@ unfolding accept decline
 decode-lengths s l =
     ends (λ d. SameLengths l d.lent) s l (λ n x y. record { retained = refl; start = refl; blocks = refl; timings = refl })
     (λ h r b.
-    let z = has_room l h.room in
+    let z = has_room_lem l h.room in
     record {
       retained = refl;
       start = over-all start_length (pos 0) l.start z.start;
@@ -107,7 +107,7 @@ decode-lengths s l =
       timings = over-all timings_length 0 l.timings z.timings;
     })
     (λ h t f.
-    let z = has_room l h.room in
+    let z = has_room_lem l h.room in
     let st = state_of l.retained in
     record {
       retained = over-within (state_numbers (retain st t)) l.retained retained_length (retained-fit st t f.sized) z.retained;

@@ -40,7 +40,7 @@ digit g s =
     let d = one-le (s its_screen) in
     let e = one-le (s its_lock) in
     rw (scaled (s its_zone) 2, scaled (s its_size) 4, scaled (s its_screen) 8, scaled (s its_lock) 16)
-    (elim g [
+    (elim g as (λ g'. (one (s its_position) + one (s its_zone) * 2 + one (s its_size) * 4 + one (s its_screen) * 8 + one (s its_lock) * 16) / bit_of g' % 2 ≡ one (s g')) [
       | its_position ↦ omega arith
       | its_zone ↦ omega arith
       | its_size ↦ omega arith
@@ -146,7 +146,7 @@ settles-each r h g =
     let h₄ = and_left (a && b && c && d) e h in
     let h₃ = and_left (a && b && c) d h₄ in
     let h₂ = and_left (a && b) c h₃ in
-    elim g [
+    elim g as (λ g'. settles g' r ≡ true) [
       | its_position ↦ and_left a b h₂
       | its_zone ↦ and_right a b h₂
       | its_size ↦ and_right (a && b) c h₃

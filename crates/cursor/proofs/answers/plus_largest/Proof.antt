@@ -7,16 +7,14 @@ use Rattle.bits.specs.Say.{said}
 use Rattle.cursor.proofs.answers.plus_largest.Statement.{statement}
 use Rattle.cursor.proofs.answers.plus_largest.Tie as tie
 
-pub plus-largest-spec : {M : Type 1} → statement M
-plus-largest-spec =
+pub plus_largest_spec : {M : Type 1} → statement M
+plus_largest_spec =
     tie.close
     (tie.spec
     (λ c. search rules)
     (λ c κs. search rules)
     (λ c.
-    let x = c.before.before in
-    let p = x.before.before.requires in
-    omega (arith, c.largest.ensures, pow_mono p.0, p.1 _ _ (ap said x.answer.given.1)))
+    omega (arith, c.largest.ensures, pow_mono c.requires.0, c.requires.1 _ _ (ap said c.in-Value.is)))
     (λ c. search rules)
-    (λ c. rw (c.before.before.answer.given.1, c.largest.ensures))
-    (λ c. rw c.before.answer2.given.1))
+    (λ c. rw (c.in-Value.is, c.largest.ensures))
+    (λ c. rw c.in-Refused.is))

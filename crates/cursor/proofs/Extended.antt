@@ -1,10 +1,10 @@
 -- A number whose largest value has more bits: what its first read leaves to do, of the answer x and the test b of x.
 use Prim.Native.Nat.{ℕ, ◌+◌, ◌<◌, ◌≤◌, ◌^◌}
 use mathlib.Core.Path.{◌≡◌, refl, ap, sym, ◌∙◌, subst}
-use mathlib.Core.Bool.{Bool, true, false, not, cond}
+use mathlib.Core.Bool.{true, false, cond}
 use mathlib.Core.List.{List}
 use native.Mathlib.Omega.{arith}
-use lib.Dec.{T, eqb}
+use lib.Dec.{eqb}
 use lib.Pow.{pow_mono}
 use Rattle.bits.specs.Parsed.{Parsed, got, refused, and_then, map_parsed, ◌>>=◌, map_p, pure}
 use Rattle.bits.specs.Reads.{read, extended}
@@ -12,15 +12,7 @@ use Rattle.bits.proofs.Always.{Ok}
 use Rattle.bits.proofs.Laws.{read-lt}
 use Rattle.cursor.specs.Answers.{is_value, end_of}
 
-is-not : (b : Bool) {t : Bool} → T (not b) → b ≡ t → t ≡ false
-is-not true z e = absurd z
-is-not false z e = sym e
-
-is-so : (b : Bool) {t : Bool} → T (not (not b)) → b ≡ t → t ≡ true
-is-so true z e = sym e
-is-so false z e = absurd z
-
-module _ (w c largest w' c' : ℕ) (s : List ℕ) (e p : ℕ) (x : Parsed ℕ) (b : Bool) where
+module _ (w c largest w' c' : ℕ) (s : List ℕ) (e p : ℕ) (x : Parsed ℕ) where
   -- what is done with the first answer
   abbrev onward : Parsed ℕ → Parsed ℕ
   onward y = and_then y (λ v q. cond (eqb v largest) (map_p (λ more. largest + more) (read w' c')) (pure v) s e q)
@@ -35,15 +27,15 @@ module _ (w c largest w' c' : ℕ) (s : List ℕ) (e p : ℕ) (x : Parsed ℕ) (
   some_more (got v q) h = rw h
   some_more (refused r) h = cc
 
-  pub stays : x ≡ read w c s e p → b ≡ is_value largest x → T (not b) → x ≡ extended w c largest w' c' s e p
+  pub stays : x ≡ read w c s e p → is_value largest x ≡ false → x ≡ extended w c largest w' c' s e p
   unfolding extended ◌>>=◌
-  stays h f z = sym (no_more x (is-not b z f)) ∙ ap onward h
+  stays h f = sym (no_more x f) ∙ ap onward h
 
   -- the second answer y is read where the first ends
-  pub goes_on : x ≡ read w c s e p → b ≡ is_value largest x → T (not (not b)) → {p' : ℕ} → p' ≡ end_of p x → {y : Parsed ℕ} → y ≡ read w' c' s e p'
+  pub goes_on : x ≡ read w c s e p → is_value largest x ≡ true → {p' : ℕ} → p' ≡ end_of p x → {y : Parsed ℕ} → y ≡ read w' c' s e p'
       → map_parsed (λ more. largest + more) y ≡ extended w c largest w' c' s e p
   unfolding extended ◌>>=◌
-  goes_on h f z at g = ap (map_parsed (λ more. largest + more)) (g ∙ ap (read w' c' s e) at) ∙ (sym (some_more x (is-so b z f)) ∙ ap onward h)
+  goes_on h f at g = ap (map_parsed (λ more. largest + more)) (g ∙ ap (read w' c' s e) at) ∙ (sym (some_more x f) ∙ ap onward h)
 
 -- what the further bits spell is below 2 to the 17th
 pub more_lt : (w' c' : ℕ) (s : List ℕ) (e p : ℕ) {x : Parsed ℕ} → w' ≤ 17 → x ≡ read w' c' s e p → (n q : ℕ) → x ≡ got n q → n < 2 ^ 17

@@ -1,4 +1,1 @@
-pub mod Held
-pub mod Calling
-pub mod Answering
 pub mod Extended

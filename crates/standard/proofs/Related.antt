@@ -10,7 +10,6 @@ use Rattle.standard.specs.Tree.{Kind, lfe, bed, isf, dynamic, kind_code, is_dyna
 use Rattle.standard.specs.Rows.{Row, State, Group, fresh, default_picture, no_row, is}
 use Rattle.standard.specs.Marks.{unsettled, marked}
 use Rattle.standard.specs.Meaning.{default_row, held_row, same_kinds, start_rows, row_picture, updated, object_rows, all_rows, gain_of, frame_rows, last_row, last_rows, retain, retain_if}
-use Rattle.standard.specs.Events.{starts}
 use Rattle.standard.proofs.Small.{number_is_lem, Pairs}
 use Rattle.standard.proofs.Starts.{start-each, start-any}
 use Rattle.standard.proofs.RowsOfFrame.{last-rows-have}

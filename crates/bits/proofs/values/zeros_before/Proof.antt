@@ -1,5 +1,5 @@
 -- `bits::values::zeros_before` meets its contract: the first 1 is the highest digit of the number.
-use Prim.Native.Nat.{ℕ, suc, ◌+◌, ◌-◌, ◌*◌, ◌/◌, ◌^◌, ◌≤◌, ◌<◌}
+use Prim.Native.Nat.{ℕ, suc, ◌+◌, ◌-◌, ◌/◌, ◌^◌, ◌≤◌, ◌<◌}
 use mathlib.Core.Path.{◌≡◌}
 use native.Mathlib.Nat.{le-div_iff_mul-le, lt_of_not-le}
 use native.Mathlib.Omega.{arith}

@@ -43,4 +43,4 @@ read-sizes-spec =
     (λ c.
     let height = c.before.before in
     let depth = height.before.before.before.before in
-    rw (at-depth depth.before.before, depth.depth.given.1, came said height.before.before.read3.ensures height.height.given.1, c.type_size.ensures)))
+    rw (at-depth depth.before.before, depth.depth.given.1, came said height.before.before.read3.ensures height.height.given.1, c.size_of.ensures)))

@@ -24,7 +24,7 @@ returns-2 c =
     let whole = c.before.before in
     let part = whole.before.row-part in
     rw (← part.ensures.number, whole.if1.false)
-    (record { says = rw (c.Shown-of.ensures, c.before.row_of.ensures, (part-whole _ _ part.ensures whole.if1.false).0); shows = refl })
+    (record { says = rw (c.shown-of.ensures, c.before.row_of.ensures, (part-whole _ _ part.ensures whole.if1.false).0); shows = refl })
 
 pub shown-spec : {M : Type 1} → statement M
 shown-spec = tie.close (tie.spec (λ c κs. search rules) returns row-of-requires (λ c κs. search rules) returns-2)

@@ -11,36 +11,31 @@ use Rattle.assignment.specs.Parts.{bed_channels, channel_kind, channels}
 use Rattle.assignment.proofs.channels.parse_bed_channels.Statement.{statement}
 use Rattle.assignment.proofs.channels.parse_bed_channels.Tie as tie
 
-at-standard : (c : tie.After-standard) →
-    let a = c.before.before.before.before.args in
-    bed_channels a.payload.now a.limit.0 a.at.0
-    ≡ cond c.standard.given.0.0
+at-standard : (c : tie.In-Is) →
+    bed_channels c.args.payload.now c.args.limit.0 c.args.at.0
+    ≡ cond c.in-Is.standard
     (map_p (chosen standard_beds) (read 10 context.standard-bed-assignment))
     (map_p (chosen nonstandard_beds) (read 17 context.nonstandard-bed-assignment))
-    a.payload.now a.limit.0 c.standard.given.0.1.0.0
+    c.args.payload.now c.args.limit.0 c.in-Is.next.0
 unfolding bed_channels ◌>>=◌
-at-standard c = rw (← c.before.before.read-flag.ensures, c.standard.given.1)
+at-standard c = rw (← c.read_flag.ensures, c.in-Is.is)
 
-returns : tie.Need-returns
+returns : tie.Need-returns-then-standard
 unfolding standard_beds channels channel_kind map_p
 returns c =
-    let p = c.before in
-    let r = p.before.before.before in
-    rw (at-standard r.before.before.before, r.before.if1.true, ← r.read.ensures) p.assign.ensures
+    rw (at-standard c.before.before.before.before.before.before.before, c.if-standard.true, ← c.read-answer.ensures) c.assign.ensures
 
-returns-2 : tie.Need-returns-2
+returns-2 : tie.Need-returns-in-Refused
 unfolding bed_channels ◌>>=◌ onto
-returns-2 c = rw (← c.before.before.before.read-flag.ensures, c.before.refusal.given.1)
+returns-2 c = rw (← c.read_flag.ensures, c.in-Refused.is)
 
-returns-3 : tie.Need-returns-3
+returns-3 : tie.Need-returns-else-standard
 unfolding nonstandard_beds channels channel_kind map_p
 returns-3 c =
-    let p = c.before in
-    let r = p.before.before.before in
-    rw (at-standard r.before.before.before, r.before.if1.false, ← r.read2.ensures) p.assign2.ensures
+    rw (at-standard c.before.before.before.before.before.before.before, c.if-standard.false, ← c.read-answer-in-Is.ensures) c.assign-in-Is.ensures
 
-pub parse-bed-channels-spec : {M : Type 1} → statement M
-parse-bed-channels-spec =
+pub parse_bed_channels_spec : {M : Type 1} → statement M
+parse_bed_channels_spec =
     tie.close
     (tie.spec
     (λ c κs. search rules)

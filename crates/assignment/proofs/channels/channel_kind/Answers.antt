@@ -1,5 +1,6 @@
 -- The first channel and a second one are Lfe.
-use mathlib.Core.Logic.{⊎_elim}
+use Prim.Native.Nat.{ℕ}
+use mathlib.Core.Logic.{◌⊎◌, inl, inr}
 use mathlib.Core.Path.{◌≡◌, refl}
 use mathlib.Core.Bool.{true, false, ◌||◌}
 use borrow.Author.Tests.{eq-eqb, ne_eqb}
@@ -7,13 +8,12 @@ use lib.Dec.{eqb}
 use Rattle.assignment.specs.Parts.{channel_kind}
 use Rattle.assignment.proofs.channels.channel_kind.Goals as goal
 
+one-of : (a b : ℕ) → (a ≡ 0) ⊎ ((a ≡ 0 → ⊥) × (a ≡ b)) → (eqb a 0 || eqb a b) ≡ true
+one-of a b h = elim h [ inl e ↦ rw (eq-eqb a 0 e) | inr w ↦ rw (ne_eqb a 0 w.0, eq-eqb a b w.1) ]
+
 pub returns-then-index-second_lfe : goal.returns-then-index-second_lfe
 unfolding channel_kind
-returns-then-index-second_lfe c =
-    let a = c.args in
-    let lfe : (eqb a.index 0 || eqb a.index a.second_lfe) ≡ true =
-        ⊎_elim (λ e. rw (eq-eqb _ _ e)) (λ w. rw (ne_eqb _ _ w.0, eq-eqb _ _ w.1)) c.if-index-second_lfe.either in
-    rw lfe
+returns-then-index-second_lfe c = rw (one-of _ _ c.if-index-second_lfe.either)
 
 pub returns-else-index-second_lfe : goal.returns-else-index-second_lfe
 unfolding channel_kind

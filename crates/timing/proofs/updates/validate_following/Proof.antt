@@ -11,10 +11,10 @@ use Rattle.timing.proofs.updates.validate_following.Statement.{statement}
 use Rattle.timing.proofs.updates.validate_following.Tie as tie
 
 abbrev invariant-loop : tie.invariant-loop-block
-invariant-loop timings blocks end end-before₀ block₀ end_Before block = Reached following end timings blocks end_Before block
+invariant-loop timings blocks end end_before₀ block₀ end_before block = Reached following end timings blocks end_before block
 
 abbrev decreases-loop : tie.decreases-loop-block
-decreases-loop timings blocks end end-before₀ block₀ end_Before block = blocks - block
+decreases-loop timings blocks end end_before₀ block₀ end_before block = blocks - block
 
 returns : tie.Need-returns-then-start-end_before invariant-loop decreases-loop
 returns c =

@@ -5,16 +5,15 @@ use Rattle.journals.proofs.Keeping.{not-appended, appended}
 use Rattle.journals.proofs.buffers.append.Statement.{statement}
 use Rattle.journals.proofs.buffers.append.Tie as tie
 
-returns : tie.Need-returns
-returns c = let a = c.before.before.before.args in not-appended a.out.now a.at a.text.now (omega arith)
+returns : tie.Need-returns-then-out-text
+returns c = not-appended c.args.out.now c.args.at c.args.text.now (omega arith)
 
-returns-2 : tie.Need-returns-2
-returns-2 c = let a = c.before.before.before.before.args in not-appended a.out.now a.at a.text.now (omega arith)
+returns-2 : tie.Need-returns-then-out-text-2
+returns-2 c = not-appended c.args.out.now c.args.at c.args.text.now (omega arith)
 
-returns-3 : tie.Need-returns-3
+returns-3 : tie.Need-returns
 returns-3 c =
-    let a = c.before.before.before.before.before.before.before.before.args in
-    appended a.out.now a.at a.text.now (omega arith) c.before.before.put_word.ensures
+    appended c.args.out.now c.args.at c.args.text.now (omega arith) c.put_word.ensures
 
-pub append-spec : {M : Type 1} → statement M
-append-spec = tie.close (tie.spec returns (λ c. search rules) returns-2 (λ c κs. search rules) (λ c. search rules) returns-3)
+pub append_spec : {M : Type 1} → statement M
+append_spec = tie.close (tie.spec returns (λ c. search rules) returns-2 (λ c κs. search rules) (λ c. search rules) returns-3)

@@ -9,32 +9,29 @@ use Rattle.journals.proofs.Keeping.{nothing-kept, keep-turn, kept}
 use Rattle.journals.proofs.buffers.keep.Statement.{statement}
 use Rattle.journals.proofs.buffers.keep.Tie as tie
 
-abbrev invariant-loop : tie.invariant-loop
+abbrev invariant-loop : tie.invariant-loop-i
 invariant-loop bytes₀ from to end n i₀ bytes i = Storing bytes₀ 0 (take i (drop from bytes₀)) n i bytes
 
-abbrev decreases-loop : tie.decreases-loop
+abbrev decreases-loop : tie.decreases-loop-i
 decreases-loop bytes₀ from to end n i₀ bytes i = n - i
 
-returns : tie.Need-returns invariant-loop decreases-loop
+returns : tie.Need-returns-then-end-from invariant-loop decreases-loop
 returns c =
-    let a = c.before.before.before.args in
-    nothing-kept a.bytes.now a.from a.to (omega (arith, c.before.least.ensures, c.if1.true))
+    nothing-kept c.args.bytes.now c.args.from c.args.to (omega (arith, c.least-end.ensures, c.if-end-from.true))
 
-loop-holds : tie.Need-loop-init invariant-loop decreases-loop
+loop-holds : tie.Need-loop-i-init invariant-loop decreases-loop
 loop-holds c = begin _ _ _
 
-loop-again : tie.Need-loop-preserved invariant-loop decreases-loop
+loop-again : tie.Need-loop-i-preserved invariant-loop decreases-loop
 loop-again c =
-    let a = c.before.before.before.before.before.before.args in
-    keep-turn a.bytes.now a.from a.to (omega arith) c.before.loop-test.true c.before.before.loop.invariant
+    keep-turn c.args.bytes.now c.args.from c.args.to (omega arith) c.loop-i-test.true c.loop-i.invariant
 
-same_length : tie.Need-same-length invariant-loop decreases-loop
-same_length c = c.before.loop.invariant.long
+same_length : tie.Need-shape_of-bytes invariant-loop decreases-loop
+same_length c = c.loop-i.invariant.long
 
-returns-2 : tie.Need-returns-2 invariant-loop decreases-loop
+returns-2 : tie.Need-returns invariant-loop decreases-loop
 returns-2 c =
-    let a = c.before.before.before.before.before.args in
-    kept a.bytes.now a.from a.to (ap (λ x. x - a.from) c.before.before.before.least.ensures) (omega arith) c.loop-test.false c.before.loop.invariant
+    kept c.args.bytes.now c.args.from c.args.to (ap (λ x. x - c.args.from) c.least-end.ensures) (omega arith) c.loop-i-test.false c.loop-i.invariant
 
 pub keep_spec : {M : Type 1} → statement M
 keep_spec =

@@ -5,11 +5,11 @@ use Rattle.journals.proofs.Keeping.{cut_short, no_part}
 use Rattle.journals.proofs.buffers.part.Statement.{statement}
 use Rattle.journals.proofs.buffers.part.Tie as tie
 
-returns : tie.Need-returns
-returns c = let a = c.before.before.before.before.args in rw c.before.before.least.ensures (cut_short a.bytes.now a.from a.to)
+returns : tie.Need-returns-then-from-end
+returns c = rw c.least-end.ensures (cut_short c.args.bytes.now c.args.from c.args.to)
 
-returns-2 : tie.Need-returns-2
-returns-2 c = let a = c.before.before.before.before.args in no_part a.bytes.now a.from a.to (omega (arith, c.before.before.least.ensures, c.before.if1.false))
+returns-2 : tie.Need-returns-else-from-end
+returns-2 c = no_part c.args.bytes.now c.args.from c.args.to (omega (arith, c.least-end.ensures, c.if-from-end.false))
 
-pub part-spec : {M : Type 1} → statement M
-part-spec = tie.close (tie.spec (λ c κs. search rules) (λ c. search rules) (λ c. search rules) (λ c. search rules) (λ c. search rules) (λ c. search rules) returns returns-2)
+pub part_spec : {M : Type 1} → statement M
+part_spec = tie.close (tie.spec (λ c κs. search rules) (λ c. search rules) (λ c. search rules) (λ c. search rules) (λ c. search rules) (λ c. search rules) returns returns-2)

@@ -9,43 +9,39 @@ use Rattle.journals.proofs.records.step.Tie as tie
 
 -- the marks that were passed
 
-past-payload : (c : tie.Else2) → let s = c.before.before.before.before.args.arrived.now in paper.step s ≡ from_gap s
-past-payload c = rw (marked _ c.before.before.if1.false, sym c.before.has-mark.ensures ∙ c.if2.false)
+past-payload : (c : tie.Else-has_mark) → paper.step c.args.arrived.now ≡ from_gap c.args.arrived.now
+past-payload c = rw (marked _ c.if-arrived-lt-MARK_LENGTH.false, sym c.has_mark.ensures ∙ c.if-has_mark.false)
 
-past-gap : (c : tie.Else3) → let s = c.before.before.before.before.before.before.args.arrived.now in paper.step s ≡ from_reset s
-past-gap c = rw (past-payload c.before.before, sym c.before.has-mark2.ensures ∙ c.if3.false)
+past-gap : (c : tie.Else-has_mark-2) → paper.step c.args.arrived.now ≡ from_reset c.args.arrived.now
+past-gap c = rw (past-payload c.before.before, sym c.has_mark-2.ensures ∙ c.if-has_mark-2.false)
 
-past-reset : (c : tie.Else4) → let s = c.before.before.before.before.before.before.before.before.args.arrived.now in paper.step s ≡ from_start s
-past-reset c = rw (past-gap c.before.before, sym c.before.has-mark3.ensures ∙ c.if4.false)
+past-reset : (c : tie.Else-has_mark-3) → paper.step c.args.arrived.now ≡ from_start c.args.arrived.now
+past-reset c = rw (past-gap c.before.before, sym c.has_mark-3.ensures ∙ c.if-has_mark-3.false)
 
-returns-2 : tie.Need-returns-2
+returns-2 : tie.Need-returns-then-has_mark
 returns-2 c =
-    let f = c.before in
-    rw (marked _ f.before.before.if1.false, sym f.before.has-mark.ensures ∙ f.if2.true) c.payload-step.ensures
+    rw (marked _ c.if-arrived-lt-MARK_LENGTH.false, sym c.has_mark.ensures ∙ c.if-has_mark.true) c.payload_step.ensures
 
-returns-3 : tie.Need-returns-3
+returns-3 : tie.Need-returns-then-has_mark-2
 returns-3 c =
-    let f = c.before in
-    rw c.bare.ensures (bare-found (omega arith) refl (rw (past-payload f.before.before, sym f.before.has-mark2.ensures ∙ f.if3.true)))
+    rw c.bare.ensures (bare-found (omega arith) refl (rw (past-payload c.before.before.before, sym c.has_mark-2.ensures ∙ c.if-has_mark-2.true)))
 
-returns-4 : tie.Need-returns-4
+returns-4 : tie.Need-returns-then-has_mark-3
 returns-4 c =
-    let f = c.before in
-    rw c.bare2.ensures (bare-found (omega arith) refl (rw (past-gap f.before.before, sym f.before.has-mark3.ensures ∙ f.if4.true)))
+    rw c.bare-then-has_mark-3.ensures (bare-found (omega arith) refl (rw (past-gap c.before.before.before, sym c.has_mark-3.ensures ∙ c.if-has_mark-3.true)))
 
-returns-5 : tie.Need-returns-5
+returns-5 : tie.Need-returns-then-has_mark-4
 returns-5 c =
-    let f = c.before in
-    rw c.bare3.ensures (bare-found (omega arith) refl (rw (past-reset f.before.before, sym f.before.has-mark4.ensures ∙ f.if5.true)))
+    rw c.bare-then-has_mark-4.ensures (bare-found (omega arith) refl (rw (past-reset c.before.before.before, sym c.has_mark-4.ensures ∙ c.if-has_mark-4.true)))
 
-returns-6 : tie.Need-returns-6
-returns-6 c = record { said = rw (past-reset c.before.before, sym c.before.has-mark4.ensures ∙ c.if5.false); placed = tt }
+returns-6 : tie.Need-returns
+returns-6 c = record { said = rw (past-reset c.before.before, sym c.has_mark-4.ensures ∙ c.if-has_mark-4.false); placed = tt }
 
 pub step_spec : {M : Type 1} → statement M
 step_spec =
     tie.close
     (tie.spec
-    (λ c. no-mark _ c.if1.true)
+    (λ c. no-mark _ c.if-arrived-lt-MARK_LENGTH.true)
     (λ c κs. search rules)
     (λ c κs. search rules)
     returns-2

@@ -5,26 +5,23 @@ use Rattle.journals.proofs.Replying.{decoding-told}
 use Rattle.journals.proofs.replies.answer_to.Statement.{statement}
 use Rattle.journals.proofs.replies.answer_to.Tie as tie
 
-abbrev decoded : tie.After-slice-known2 → tie.After-decode
+abbrev decoded : tie.After-slice_known-2-1 → tie.After-decode
 decoded c = c.before.before.before.before.before
 
-returns : tie.Need-returns
+returns : tie.Need-returns-in-Accepted
 returns c =
-    let f = c.before.before.before.before in
-    decoding-told (decoded f.before.before).decode.ensures f.frame.given.1 refl
+    decoding-told (decoded c.before.before.before.before).decode.ensures c.in-Accepted.is refl
 
-returns-2 : tie.Need-returns-2
+returns-2 : tie.Need-returns-in-Refused
 returns-2 c =
-    let f = c.before.before in
-    decoding-told (decoded f.before.before).decode.ensures f.refusal.given.1 c.refused.ensures
+    decoding-told (decoded c.before.before).decode.ensures c.in-Refused.is c.refused.ensures
 
-returns-3 : tie.Need-returns-3
+returns-3 : tie.Need-returns-in-Unread
 returns-3 c =
-    let f = c.before.before in
-    decoding-told (decoded f.before.before).decode.ensures f.number.given.1 c.unread.ensures
+    decoding-told (decoded c.before.before).decode.ensures c.in-Unread.is c.unread.ensures
 
-pub answer-to-spec : {M : Type 1} → statement M
-answer-to-spec =
+pub answer_to_spec : {M : Type 1} → statement M
+answer_to_spec =
     tie.close
     (tie.spec
     (λ c κs. search rules)

@@ -5,14 +5,13 @@ use Rattle.journals.proofs.Replying.{payload-replied, notice-replied}
 use Rattle.journals.proofs.replies.reply_to.Statement.{statement}
 use Rattle.journals.proofs.replies.reply_to.Tie as tie
 
-returns : tie.Need-returns
+returns : tie.Need-returns-in-Payload
 returns c =
-    let f = c.before.before.before.before.before in
-    rw f.before.before.before.before.before.enum_told.given.1 (payload-replied _ _ f.answer-to.ensures)
+    rw c.in-Payload.is (payload-replied _ _ c.answer_to.ensures)
 
-pub reply-to-spec : {M : Type 1} → statement M
+pub reply_to_spec : {M : Type 1} → statement M
 unfolding reply_to
-reply-to-spec =
+reply_to_spec =
     tie.close
     (tie.spec
     (λ c. search rules)
@@ -29,8 +28,8 @@ reply-to-spec =
     (λ c. search rules)
     returns
     (λ c. search rules)
-    (λ c. rw c.before.before.before.enum-told2.given.1 (notice-replied (search rules)))
+    (λ c. rw c.in-Gap.is (notice-replied (search rules)))
     (λ c. search rules)
-    (λ c. rw c.before.before.before.enum-told3.given.1 (notice-replied (search rules)))
+    (λ c. rw c.in-Reset.is (notice-replied (search rules)))
     (λ c. search rules)
-    (λ c. rw c.before.before.before.enum-told4.given.1 (notice-replied (search rules))))
+    (λ c. rw c.in-Start.is (notice-replied (search rules))))

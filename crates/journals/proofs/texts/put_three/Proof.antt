@@ -9,9 +9,9 @@ use Rattle.journals.proofs.texts.put_three.Tie as tie
 returns : tie.Need-returns
 returns c =
     rw (spaced-append (_ ∷ _ ∷ []) (_ ∷ []), spaced-append (_ ∷ []) (_ ∷ []))
-    (puts-more (puts-more c.before.before.before.before.before.before.before.before.before.before.put-spaced.ensures c.before.before.before.before.before.before.put-spaced2.ensures) c.before.before.put-spaced3.ensures)
+    (puts-more (puts-more c.put_spaced-second.ensures c.put_spaced-third.ensures) c.put_spaced.ensures)
 
-pub put-three-spec : {M : Type 1} → statement M
-put-three-spec =
+pub put_three_spec : {M : Type 1} → statement M
+put_three_spec =
     tie.close
     (tie.spec (λ c κs. search rules) (λ c κs. search rules) (λ c κs. search rules) (λ c. search rules) returns)

@@ -10,30 +10,28 @@ use Rattle.rows.proofs.Storing.{Storing, begin, copy-turn, copied}
 use Rattle.journals.proofs.texts.put_word.Statement.{statement}
 use Rattle.journals.proofs.texts.put_word.Tie as tie
 
-abbrev invariant-loop : tie.invariant-loop
+abbrev invariant-loop : tie.invariant-loop-i
 invariant-loop out₀ at word i₀ i-end out i = Storing out₀ at (take i word) (length word) i out
 
-abbrev decreases-loop : tie.decreases-loop
+abbrev decreases-loop : tie.decreases-loop-i
 decreases-loop out₀ at word i₀ i-end out i = i-end - i
 
-loop-holds : tie.Need-loop-init invariant-loop decreases-loop
+loop-holds : tie.Need-loop-i-init invariant-loop decreases-loop
 loop-holds c = begin _ _ _
 
-loop-again : tie.Need-loop-preserved invariant-loop decreases-loop
+loop-again : tie.Need-loop-i-preserved invariant-loop decreases-loop
 loop-again c =
-    let a = c.before.before.before.args in
-    rw zero-add at (copy-turn a.word.now 0 0 (omega arith) c.before.loop-test.true c.before.before.loop.invariant)
+    rw zero-add at (copy-turn c.args.word.now 0 0 (omega arith) c.loop-i-test.true c.loop-i.invariant)
 
-same_length : tie.Need-same-length invariant-loop decreases-loop
-same_length c = c.before.loop.invariant.long
+same_length : tie.Need-shape_of-out invariant-loop decreases-loop
+same_length c = c.loop-i.invariant.long
 
 returns : tie.Need-returns invariant-loop decreases-loop
 returns c =
-    let word = c.before.before.args.word.now in
-    record { left = copied word c.loop-test.false c.before.loop.invariant ∙ ap (written _ _) (take_all (length word) word (omega arith)); place = refl; short = omega arith }
+    record { left = copied c.args.word.now c.loop-i-test.false c.loop-i.invariant ∙ ap (written _ _) (take_all (length c.args.word.now) c.args.word.now (omega arith)); place = refl; short = omega arith }
 
-pub put-word-spec : {M : Type 1} → statement M
-put-word-spec =
+pub put_word_spec : {M : Type 1} → statement M
+put_word_spec =
     tie.close
     (tie.spec
     invariant-loop

@@ -4,21 +4,19 @@ use Rattle.journals.proofs.Turning.{found_in, turn-replied, turn-waits, turn-sto
 use Rattle.journals.proofs.turns.advance.Statement.{statement}
 use Rattle.journals.proofs.turns.advance.Tie as tie
 
-returns : tie.Need-returns
+returns : tie.Need-returns-in-Whole
 returns c =
-    let r = c.before.before.before.before.before in
-    let f = r.before.before.before.before.before.before.before in
-    turn-replied f.before.before.step.ensures f.kind.given.1 _ r.reply-to.ensures
+    turn-replied c.step.ensures c.in-Whole.is _ c.reply_to-reply.ensures
 
-pub advance-spec : {M : Type 1} → statement M
-advance-spec =
+pub advance_spec : {M : Type 1} → statement M
+advance_spec =
     tie.close
     (tie.spec
     (λ c κs. search rules)
     (λ c. search rules)
-    (λ c. (found_in c.before.before.before.step.ensures c.before.kind.given.1).ordered)
-    (λ c. (found_in c.before.before.before.step.ensures c.before.kind.given.1).ordered)
-    (λ c. (found_in c.before.before.before.step.ensures c.before.kind.given.1).within)
+    (λ c. (found_in c.step.ensures c.in-Whole.is).ordered)
+    (λ c. (found_in c.step.ensures c.in-Whole.is).ordered)
+    (λ c. (found_in c.step.ensures c.in-Whole.is).within)
     (λ c κs. search rules)
     (λ c. search rules)
     (λ c. search rules)
@@ -27,5 +25,5 @@ advance-spec =
     (λ c. search rules)
     (λ c. search rules)
     returns
-    (λ c. turn-waits c.before.before.step.ensures _ c.enum_told.given.1)
-    (λ c. turn-stops c.before.before.step.ensures _ c.enum-told2.given.1))
+    (λ c. turn-waits c.step.ensures _ c.in-More.is)
+    (λ c. turn-stops c.step.ensures _ c.in-Unknown.is))

@@ -6,18 +6,18 @@ use Rattle.rules.proofs.Answers.{rule-unknown}
 use Rattle.rules.proofs.calls.carry.Statement.{statement}
 use Rattle.rules.proofs.calls.carry.Tie as tie
 
-returns : tie.Need-returns
-returns c = rw c.before.before.if1.true (c.carry-in-frame.ensures _)
+returns : tie.Need-returns-then-rule-eq-IN_FRAME
+returns c = rw c.if-rule-eq-IN_FRAME.true (c.carry_in_frame.ensures _)
 
-returns-2 : tie.Need-returns-2
-returns-2 c = rw c.before.before.before.before.if2.true c.before.carry-over-edge.ensures
+returns-2 : tie.Need-returns-then-rule-eq-OVER_EDGE
+returns-2 c = rw c.if-rule-eq-OVER_EDGE.true c.carry_over_edge.ensures
 
-returns-3 : tie.Need-returns-3
+returns-3 : tie.Need-returns
 unfolding carry tested
-returns-3 c = rw (rule-unknown _ c.before.if1.false c.if2.false) (record { number = refl; state = refl; carried = refl })
+returns-3 c = rw (rule-unknown _ c.if-rule-eq-IN_FRAME.false c.if-rule-eq-OVER_EDGE.false) (record { number = refl; state = refl; carried = refl })
 
-pub carry-spec : {M : Type 1} → statement M
-carry-spec =
+pub carry_spec : {M : Type 1} → statement M
+carry_spec =
     tie.close
     (tie.spec
     (λ c κs. search rules)

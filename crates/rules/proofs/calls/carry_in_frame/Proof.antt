@@ -14,42 +14,36 @@ use Rattle.rules.proofs.Answers.{long, carry-as}
 use Rattle.rules.proofs.calls.carry_in_frame.Statement.{statement}
 use Rattle.rules.proofs.calls.carry_in_frame.Tie as tie
 
-returns : tie.Need-returns
+returns : tie.Need-returns-then-not-counts_within
 unfolding carry tested rule_of
 returns c =
-    let w = c.before in
-    λ carried. rw (← w.counts-within.ensures, not-true w.counts-within.result c.if1.true) (record { number = refl; state = refl; carried = refl })
+    λ carried. rw (← c.counts_within.ensures, not-true c.counts_within.result c.if-not-counts_within.true-raw) (record { number = refl; state = refl; carried = refl })
 
 -- the counts passed
-counted : (c : tie.Else1) → let a = c.before.before.before.args in counts_within a.blocks a.objects ≡ true
-counted c = sym c.before.counts-within.ensures ∙ not-false _ c.if1.false
+counted : (c : tie.Else-not-counts_within) → counts_within c.args.blocks c.args.objects ≡ true
+counted c = sym c.counts_within.ensures ∙ not-false _ c.if-not-counts_within.false-raw
 
-returns-2 : tie.Need-returns-2
+returns-2 : tie.Need-returns-then-not-frame_room-blocks_room
 unfolding carry tested rule_of carried_room blocks_length
 returns-2 c =
-    let r = c.before in
-    λ carried. rw (counted r.before, and-true, ← r.frame-room.ensures, not-true (r.frame-room.result && _) c.if2.true)
+    λ carried. rw (counted c.before.before, and-true, ← c.frame_room.ensures, not-true (c.frame_room.result && _) c.if-not-frame_room-blocks_room.true-raw)
     (record { number = refl; state = refl; carried = refl })
 
 -- and the room
-roomy : (c : tie.Else2) → let a = c.before.before.before.before.before.args in
-    (frame_room a.timings.now a.blocks a.start.now ≡ true) × (leb blocks_length (length a.block-rows.now) ≡ true)
+roomy : (c : tie.Else-not-frame_room-blocks_room) → (frame_room c.args.timings.now c.args.blocks c.args.start.now ≡ true) × (leb blocks_length (length c.args.block_rows.now) ≡ true)
 unfolding blocks_length
-roomy c = let e = (and-eq-true_iff _ _).0 (not-false _ c.if2.false) in (sym c.before.frame-room.ensures ∙ e.0, e.1)
+roomy c = let e = (and-eq-true_iff _ _).0 (not-false _ c.if-not-frame_room-blocks_room.false-raw) in (sym c.frame_room.ensures ∙ e.0, e.1)
 
-returns-3 : tie.Need-returns-3
+returns-3 : tie.Need-returns
 returns-3 c =
-    let p = c.before in
-    let n = p.before in
-    let e = n.before.before in
-    λ carried. carry-as (carry-1 _ _ _ _ carried _ (counted e.before.before) (roomy e).0 _ (roomy e).1)
-    (record { number = c.test-in-frame.ensures; state = p.put_Going.ensures ∙ n.nothing.ensures; carried = refl })
+    λ carried. carry-as (carry-1 _ _ _ _ carried _ (counted c.before.before.before.before.before.before) (roomy c.before.before.before.before).0 _ (roomy c.before.before.before.before).1)
+    (record { number = c.test_in_frame.ensures; state = c.put_going.ensures ∙ c.nothing.ensures; carried = refl })
 
-timings-room : (c : tie.Else2) → let a = c.before.before.before.before.before.args in 2 * a.blocks ≤ length a.timings.now
-timings-room c = let a = c.before.before.before.before.before.args in (long a.timings.now a.blocks a.start.now (roomy c).0).0
+timings-room : (c : tie.Else-not-frame_room-blocks_room) → 2 * c.args.blocks ≤ length c.args.timings.now
+timings-room c = (long c.args.timings.now c.args.blocks c.args.start.now (roomy c).0).0
 
-pub carry-in-frame-spec : {M : Type 1} → statement M
-carry-in-frame-spec =
+pub carry_in_frame_spec : {M : Type 1} → statement M
+carry_in_frame_spec =
     tie.close
     (tie.spec
     (λ c κs. search rules)

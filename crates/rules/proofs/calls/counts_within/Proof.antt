@@ -8,5 +8,5 @@ returns : tie.Need-returns
 unfolding object_limit block_limit
 returns c = refl
 
-pub counts-within-spec : {M : Type 1} → statement M
-counts-within-spec = tie.close (tie.spec returns)
+pub counts_within_spec : {M : Type 1} → statement M
+counts_within_spec = tie.close (tie.spec returns)

@@ -7,7 +7,7 @@ use Rattle.rules.proofs.calls.drop_ramp.Tie as tie
 
 returns : tie.Need-returns
 unfolding drop_ramp
-returns c = c.put_Going.ensures ∙ c.before.nothing.ensures
+returns c = c.put_going.ensures ∙ c.nothing.ensures
 
-pub drop-ramp-spec : {M : Type 1} → statement M
-drop-ramp-spec = tie.close (tie.spec (λ c κs. search rules) (λ c κs. search rules) returns)
+pub drop_ramp_spec : {M : Type 1} → statement M
+drop_ramp_spec = tie.close (tie.spec (λ c κs. search rules) (λ c κs. search rules) returns)

@@ -9,5 +9,5 @@ returns : tie.Need-returns
 unfolding start_length
 returns c = refl
 
-pub frame-room-spec : {M : Type 1} → statement M
-frame-room-spec = tie.close (tie.spec (λ c. search rules) returns)
+pub frame_room_spec : {M : Type 1} → statement M
+frame_room_spec = tie.close (tie.spec (λ c. search rules) returns)

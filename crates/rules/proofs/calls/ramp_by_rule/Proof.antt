@@ -7,20 +7,19 @@ use Rattle.rules.proofs.Answers.{rule-unknown, ramp-whole}
 use Rattle.rules.proofs.calls.ramp_by_rule.Statement.{statement}
 use Rattle.rules.proofs.calls.ramp_by_rule.Tie as tie
 
-returns : tie.Need-returns
-returns c = rw (c.before.if1.true, ramp-1) c.ramp.ensures
+returns : tie.Need-returns-then-rule-eq-IN_FRAME
+returns c = rw (c.if-rule-eq-IN_FRAME.true, ramp-1) c.ramp.ensures
 
-returns-2 : tie.Need-returns-2
+returns-2 : tie.Need-returns-then-rule-eq-OVER_EDGE
 returns-2 c =
-    let g = c.before in
-    rw (g.before.if2.true, ← ramp-whole, ← g.going-in.ensures) c.ramp-going.ensures
+    rw (c.if-rule-eq-OVER_EDGE.true, ← ramp-whole, ← c.going_in.ensures) c.ramp_going.ensures
 
-returns-3 : tie.Need-returns-3
+returns-3 : tie.Need-returns
 unfolding ramp_by_rule tested
-returns-3 c = rw (rule-unknown _ c.before.if1.false c.if2.false) (record { says = refl; chosen = refl; rounded = tt })
+returns-3 c = rw (rule-unknown _ c.if-rule-eq-IN_FRAME.false c.if-rule-eq-OVER_EDGE.false) (record { says = refl; chosen = refl; rounded = tt })
 
-pub ramp-by-rule-spec : {M : Type 1} → statement M
-ramp-by-rule-spec =
+pub ramp_by_rule_spec : {M : Type 1} → statement M
+ramp_by_rule_spec =
     tie.close
     (tie.spec
     (λ c κs. search rules)

@@ -6,15 +6,15 @@ use Rattle.rules.proofs.Answers.{rule-unknown}
 use Rattle.rules.proofs.calls.timing_by_rule.Statement.{statement}
 use Rattle.rules.proofs.calls.timing_by_rule.Tie as tie
 
-returns : tie.Need-returns
-returns c = rw c.before.before.if1.true (c.timing-in-frame.ensures _)
+returns : tie.Need-returns-then-rule-eq-IN_FRAME
+returns c = rw c.if-rule-eq-IN_FRAME.true (c.timing_in_frame.ensures _)
 
-returns-2 : tie.Need-returns-2
-returns-2 c = rw c.before.before.if2.true c.timing-over-edge.ensures
+returns-2 : tie.Need-returns-then-rule-eq-OVER_EDGE
+returns-2 c = rw c.if-rule-eq-OVER_EDGE.true c.timing_over_edge.ensures
 
-returns-3 : tie.Need-returns-3
+returns-3 : tie.Need-returns
 unfolding timing_by_rule tested
-returns-3 c = rw (rule-unknown _ c.before.if1.false c.if2.false) (record { number = refl; state = refl })
+returns-3 c = rw (rule-unknown _ c.if-rule-eq-IN_FRAME.false c.if-rule-eq-OVER_EDGE.false) (record { number = refl; state = refl })
 
-pub timing-by-rule-spec : {M : Type 1} → statement M
-timing-by-rule-spec = tie.close (tie.spec (λ c κs. search rules) returns (λ c κs. search rules) returns-2 returns-3)
+pub timing_by_rule_spec : {M : Type 1} → statement M
+timing_by_rule_spec = tie.close (tie.spec (λ c κs. search rules) returns (λ c κs. search rules) returns-2 returns-3)

@@ -12,45 +12,40 @@ use Rattle.rules.proofs.Answers.{long, timing-as}
 use Rattle.rules.proofs.calls.timing_in_frame.Statement.{statement}
 use Rattle.rules.proofs.calls.timing_in_frame.Tie as tie
 
-returns : tie.Need-returns
+returns : tie.Need-returns-then-not-counts_within
 unfolding timing_by_rule tested rule_of
 returns c =
-    let w = c.before in
-    λ carried. rw (← w.counts-within.ensures, not-true w.counts-within.result c.if1.true) (record { number = refl; state = refl })
+    λ carried. rw (← c.counts_within.ensures, not-true c.counts_within.result c.if-not-counts_within.true-raw) (record { number = refl; state = refl })
 
-returns-2 : tie.Need-returns-2
+returns-2 : tie.Need-returns-then-not-frame_room
 unfolding timing_by_rule tested rule_of carried_room
 returns-2 c =
-    let r = c.before in
-    let w = r.before.before in
     λ carried. rw (
-      ← w.counts-within.ensures,
-      not-false w.counts-within.result r.before.if1.false,
-      ← r.frame-room.ensures,
-      not-true r.frame-room.result c.if2.true,
+      ← c.counts_within.ensures,
+      not-false c.counts_within.result c.if-not-counts_within.false-raw,
+      ← c.frame_room.ensures,
+      not-true c.frame_room.result c.if-not-frame_room.true-raw,
     )
     (record { number = refl; state = refl })
 
 -- the counts and the room passed
 
-counted : (c : tie.Else2) → let a = c.before.before.before.before.before.args in counts_within a.blocks a.objects ≡ true
-counted c = let e = c.before.before in sym e.before.counts-within.ensures ∙ not-false _ e.if1.false
+counted : (c : tie.Else-not-frame_room) → counts_within c.args.blocks c.args.objects ≡ true
+counted c = sym c.counts_within.ensures ∙ not-false _ c.if-not-counts_within.false-raw
 
-roomy : (c : tie.Else2) → let a = c.before.before.before.before.before.args in frame_room a.timings.now a.blocks a.start.now ≡ true
-roomy c = sym c.before.frame-room.ensures ∙ not-false _ c.if2.false
+roomy : (c : tie.Else-not-frame_room) → frame_room c.args.timings.now c.args.blocks c.args.start.now ≡ true
+roomy c = sym c.frame_room.ensures ∙ not-false _ c.if-not-frame_room.false-raw
 
-returns-3 : tie.Need-returns-3
+returns-3 : tie.Need-returns
 returns-3 c =
-    let p = c.before in
-    let n = p.before in
-    λ carried. timing-as (timing-1-drops _ _ _ _ carried _ (counted n.before.before) (roomy n.before.before))
-    (record { number = c.test-in-frame.ensures; state = p.put_Going.ensures ∙ n.nothing.ensures })
+    λ carried. timing-as (timing-1-drops _ _ _ _ carried _ (counted c.before.before.before.before) (roomy c.before.before.before.before))
+    (record { number = c.test_in_frame.ensures; state = c.put_going.ensures ∙ c.nothing.ensures })
 
-timings-room : (c : tie.Else2) → let a = c.before.before.before.before.before.args in 2 * a.blocks ≤ length a.timings.now
-timings-room c = let a = c.before.before.before.before.before.args in (long a.timings.now a.blocks a.start.now (roomy c)).0
+timings-room : (c : tie.Else-not-frame_room) → 2 * c.args.blocks ≤ length c.args.timings.now
+timings-room c = (long c.args.timings.now c.args.blocks c.args.start.now (roomy c)).0
 
-pub timing-in-frame-spec : {M : Type 1} → statement M
-timing-in-frame-spec =
+pub timing_in_frame_spec : {M : Type 1} → statement M
+timing_in_frame_spec =
     tie.close
     (tie.spec
     (λ c κs. search rules)

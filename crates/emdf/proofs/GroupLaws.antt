@@ -51,7 +51,7 @@ module _ (w first : ℕ) (s : List ℕ) (e : ℕ) where
   none_left n v p l =
       ap (instead_of cut) (later-groups w 0 first v s e n p)
       ∙ instead-then cut (reads.flag 0 s e p) (groups.after_flag w 0 first v s e n)
-      ∙ ap (λ x. and_then x (λ more q. instead_of cut (groups.after_flag w 0 first v s e n more q))) (cut-past flag-whole s e p (omega arith))
+      ∙ ap (λ x. and_then x (λ more q. instead_of cut (groups.after_flag w 0 first v s e n more q))) (cut-past 1 flag-whole s e p (omega arith))
 
   -- what follows a group may be said in two ways that are the same further on
   module _ (f g : ℕ → ℕ → Parsed ℕ) (p : ℕ) (same : (v q : ℕ) → p < q → q ≤ e → f v q ≡ g v q) where
@@ -71,7 +71,7 @@ module _ (w first : ℕ) (s : List ℕ) (e : ℕ) where
   turns = record {
     first = one-group;
     none = none_left;
-    cut-turn = λ then v p l. ap (λ x. and_then x (after_flag then v)) (cut-past flag-whole s e p (omega arith));
+    cut-turn = λ then v p l. ap (λ x. and_then x (after_flag then v)) (cut-past 1 flag-whole s e p (omega arith));
     later = λ f g v p same. after-flag f g p same v (flag s e p) (flag-whole.tells s e p);
   }
 

@@ -10,7 +10,7 @@ use Rattle.bits.specs.Parsed.{Parsed, got, refused, and_then, map_parsed, ◌>>=
 use Rattle.bits.proofs.Always.{Always, Ok}
 use Rattle.bits.proofs.ParsedLaws.{then-got, then_map}
 use Rattle.standard.specs.Numbers.{container_limit, no_object, other_version, alone}
-use Rattle.standard.specs.Container.{object_id, bits, pass, variable, extended, passed, config, Header, header, object_among, first_object, opening}
+use Rattle.standard.specs.Container.{object_id, pass, variable, extended, passed, config, Header, header, object_among, first_object, opening}
 use Rattle.emdf.specs.Say.{large, near, near_header}
 use Rattle.emdf.proofs.Turns.{Turns, turn-then}
 use Rattle.emdf.proofs.Cuts.{cut, Whole, cut-past, bits-tells, pass-tells}
@@ -32,7 +32,7 @@ module _ (s : List ℕ) (e : ℕ) where
 
   none_left : (p : ℕ) → e ≤ p → header s e p ≡ refused cut
   unfolding header extended ◌>>=◌
-  none_left p l = rw (cut-past (bits-tells 5) s e p (omega arith))
+  none_left p l = rw (cut-past 5 (bits-tells 5) s e p (omega arith))
 
   none-among : (n p : ℕ) → e ≤ p → object_among n s e p ≡ refused cut
   unfolding object_among refuse
@@ -73,7 +73,7 @@ module _ (s : List ℕ) (e : ℕ) where
     where
       go : Alike n (min n large) → pass (n * 8) s e q ≡ pass (min n large * 8) s e q
       go (same d) = ap (λ k. pass (k * 8) s e q) d
-      go (past h k) = cut-past (pass-tells (n * 8)) s e q (omega arith) ∙ sym (cut-past (pass-tells (min n large * 8)) s e q (omega arith))
+      go (past h k) = cut-past (n * 8) (pass-tells (n * 8)) s e q (omega arith) ∙ sym (cut-past (min n large * 8) (pass-tells (min n large * 8)) s e q (omega arith))
 
   abbrev pub near_first : ℕ → Parsed ℕ
   near_first p = near (first p)

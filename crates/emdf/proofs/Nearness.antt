@@ -102,7 +102,8 @@ near_le m = record { ok = λ s e p. go (m s e p) }
     go (refused r) = tt
 
 pub near-passed : (x : Parsed ℕ) → map_parsed (λ n. tt {0}) x ≡ map_parsed (λ n. tt {0}) (near x)
-near-passed x = elim x [ got n q ↦ refl | refused r ↦ refl ]
+near-passed (got n q) = refl
+near-passed (refused r) = refl
 
 alike-add : (k : ℕ) {v v' : ℕ} → Alike v v' → Alike (k + v) (k + v')
 alike-add k (same e) = same (ap (λ x. k + x) e)

@@ -9,7 +9,7 @@ use Rattle.bits.specs.Parsed.{got, ◌>>=◌, ◌>>◌, pure, refuse, the_end, e
 use Rattle.bits.specs.Reads.{padding}
 use Rattle.bits.proofs.Always as always
 use Rattle.bits.proofs.Always.{Always, IfSome}
-use Rattle.bits.proofs.Makes.{Makes, given, bind, bind-such, after, next}
+use Rattle.bits.proofs.Makes.{Makes, bind-such, after, next}
 use Rattle.standard.specs.Contexts as context
 use Rattle.standard.specs.Tree.{Kind, Object, Tree, kinds_of}
 use Rattle.standard.specs.Updates.{object}

@@ -7,7 +7,7 @@ use native.Mathlib.Omega.{arith}
 use borrow.Author.Tests.{le-leb, lt-leb, leb-true, ne_eqb}
 use lib.Dec.{leb}
 use lib.IntN.{ℤ, pos}
-use lib.ListN.{length, take, drop, replicate, set, length-take, length-drop}
+use lib.ListN.{length, take, drop, set, length-take, length-drop}
 use Rattle.standard.specs.Numbers.{doubt_at, row_width, retained_length, accepted, room, form, index}
 use Rattle.standard.specs.Tables.{row_of, shown_form, in_form}
 use Rattle.standard.specs.Calls.{over, Kept, zeros, renewed, programme_start, reset, gap, row_part, row_number, part_call}

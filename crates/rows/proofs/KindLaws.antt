@@ -1,7 +1,7 @@
 -- Kinds and their numbers.
 use mathlib.Core.Path.{◌≡◌, refl, sym}
 use mathlib.Core.Bool.{Bool, true, false, not, cond, ◌||◌, false≢true}
-use lib.IntN.{ℤ, pos}
+use lib.IntN.{ℤ}
 use Rattle.standard.specs.Tree.{Kind, lfe, bed, isf, dynamic, kind_number, is_dynamic}
 use Rattle.standard.specs.Rows.{is}
 use Rattle.standard.proofs.Small.{number_is_lem}

@@ -19,7 +19,7 @@ use Rattle.standard.specs.Tables.{every, between}
 -- A signed number in a local is its bits
 
 pub back : {z : ℤ} → mag z < 2 ^ 15 → to_z w16 (of_z w16 z) ≡ z
-back h = to_z-of_z (sfits_of h)
+back h = to_z-of_z {w = w16} (sfits_of h)
 
 same_test : (a b c d : ℕ) → (a ≡ b → c ≡ d) → (c ≡ d → a ≡ b) → eqb a b ≡ eqb c d
 same_test a b c d f g = go (eqb c d) refl

@@ -16,7 +16,7 @@ pub wide_fits : {z : ℤ} → SFits w16 z → SFits w32 (to_z w16 (of_z w16 z))
 wide_fits h = rw (to_z-of_z h) (sfits_widen tt h)
 
 pub wide : {z : ℤ} → SFits w16 z → to_z w32 (of_z w32 (to_z w16 (of_z w16 z))) ≡ z
-wide h = rw (to_z-of_z h) (to_z-of_z (sfits_widen tt h))
+wide h = rw (to_z-of_z h) (to_z-of_z {w = w32} (sfits_widen tt h))
 
 mag_sum : (a b : ℤ) → mag (a +ℤ b) ≤ suc (mag a + mag b)
 mag_sum (pos a) (pos b) = omega arith

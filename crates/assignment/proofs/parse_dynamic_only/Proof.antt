@@ -13,33 +13,25 @@ use Rattle.assignment.proofs.Assigning.{none-assigned, all-assigned}
 use Rattle.assignment.proofs.parse_dynamic_only.Statement.{statement}
 use Rattle.assignment.proofs.parse_dynamic_only.Tie as tie
 
-first-le : (c : tie.After-extend-if) → c.extend-if.result ≤ 1
+first-le : (c : tie.After-extend_if-first) → c.extend_if-first.result ≤ 1
 first-le c =
-    let f = c.before.before.before in
-    let a = f.before.before.before.before.args in
-    cond-grown f.lfe-present.given.0.0 1 (pos 0) (holding 0 a.kinds.now) c.extend-if.ensures
+    cond-grown c.in-Is.lfe_present 1 (pos 0) (holding 0 c.args.kinds.now) c.extend_if-first.ensures
 
-returns : tie.Need-returns
+returns : tie.Need-returns-in-Refused
 unfolding only_dynamic map_p
-returns c = none-assigned _ _ _ (rw (← c.before.before.before.read-flag.ensures, c.before.refusal.given.1)) refl
+returns c = none-assigned _ _ _ (rw (← c.read_flag.ensures, c.in-Refused.is)) refl
 
-returns-2 : tie.Need-returns-2
+returns-2 : tie.Need-returns-in-Is
 unfolding only_dynamic map_p
 returns-2 c =
-    let x = c.before in
-    let i = x.before.before.before in
-    let f = i.before.before.before in
-    let w = f.before.before.before.before in
-    let n = w.args.object-count in
-    let b = f.lfe-present.given.0.0 in
-    all-assigned _ _ _ x.extend.result (only n w.requires.0 b)
-    (rw (← f.before.before.read-flag.ensures, f.lfe-present.given.1))
-    (only-length n w.requires.0 b)
+    all-assigned _ _ _ c.extend.result (only c.args.object_count c.requires.0 c.in-Is.lfe_present)
+    (rw (← c.read_flag.ensures, c.in-Is.is))
+    (only-length c.args.object_count c.requires.0 c.in-Is.lfe_present)
     (omega arith)
-    (rw (x.extend.ensures, i.extend-if.ensures, counted i.extend-if.ensures) (only-extends n w.requires.0 w.args.kinds.now b))
+    (rw (c.extend.ensures, c.extend_if-first.ensures, counted c.extend_if-first.ensures) (only-extends c.args.object_count c.requires.0 c.args.kinds.now c.in-Is.lfe_present))
 
-pub parse-dynamic-only-spec : {M : Type 1} → statement M
-parse-dynamic-only-spec =
+pub parse_dynamic_only_spec : {M : Type 1} → statement M
+parse_dynamic_only_spec =
     tie.close
     (tie.spec
     (λ c κs. search rules)

@@ -10,29 +10,27 @@ use Rattle.standard.specs.Assignment.{object_count}
 use Rattle.assignment.proofs.read_object_count.Statement.{statement}
 use Rattle.assignment.proofs.read_object_count.Tie as tie
 
-returns : tie.Need-returns
+returns : tie.Need-returns-then-object_count-gt-OBJECT_LIMIT
 unfolding object_count object_limit ◌>>=◌ ◌>>◌ refuse here require
 returns c =
-    let v = c.before.before.before in
-    rw (c.limit.ensures, ← v.before.before.read-extended.ensures, v.coded.given.1, lt-leb _ _ c.before.if1.true)
+    rw (c.limit.ensures, ← c.read_extended.ensures, c.in-Value.is, lt-leb _ _ c.if-object_count-gt-OBJECT_LIMIT.true)
 
-returns-3 : tie.Need-returns-3
+returns-3 : tie.Need-returns-else-object_count-gt-OBJECT_LIMIT
 unfolding object_count object_limit ◌>>=◌ ◌>>◌ pure here require
 returns-3 c =
-    let v = c.before.before in
-    rw (← v.before.before.read-extended.ensures, v.coded.given.1, le-leb _ _ c.if1.false)
+    rw (← c.read_extended.ensures, c.in-Value.is, le-leb _ _ c.if-object_count-gt-OBJECT_LIMIT.false)
 
-pub read-object-count-spec : {M : Type 1} → statement M
+pub read_object_count_spec : {M : Type 1} → statement M
 unfolding object_count ◌>>=◌ here
-read-object-count-spec =
+read_object_count_spec =
     tie.close
     (tie.spec
     (λ c κs. search rules)
     (λ c. search rules)
     (λ c. search rules)
-    (λ c. omega (arith, gives said (extended_lt _ _ _ _ _) c.before.before.before.read-extended.ensures c.before.coded.given.1))
+    (λ c. omega (arith, gives said (extended_lt _ _ _ _ _) c.read_extended.ensures c.in-Value.is))
     (λ c. search rules)
     (λ c κs. search rules)
     returns
-    (λ c. rw (← c.before.before.before.read-extended.ensures, c.before.refusal.given.1))
+    (λ c. rw (← c.read_extended.ensures, c.in-Refused.is))
     returns-3)

@@ -6,21 +6,19 @@ use Rattle.standard.specs.Assignment.{version}
 use Rattle.assignment.proofs.read_version.Statement.{statement}
 use Rattle.assignment.proofs.read_version.Tie as tie
 
-returns : tie.Need-returns
+returns : tie.Need-returns-then-version-ne0
 unfolding version ◌>>=◌ refuse here require
 returns c =
-    let v = c.before.before.before in
-    rw (c.unsupported.ensures, ← v.before.before.read-extended.ensures, v.version.given.1, ne_eqb _ _ c.before.if1.true)
+    rw (c.unsupported.ensures, ← c.read_extended.ensures, c.in-Value.is, ne_eqb _ _ c.if-version-ne0.true)
 
-returns-3 : tie.Need-returns-3
+returns-3 : tie.Need-returns-else-version-ne0
 unfolding version ◌>>=◌ pure here require
 returns-3 c =
-    let v = c.before.before in
-    rw (← v.before.before.read-extended.ensures, v.version.given.1, eq-eqb _ _ c.if1.false)
+    rw (← c.read_extended.ensures, c.in-Value.is, eq-eqb _ _ c.if-version-ne0.false)
 
-pub read-version-spec : {M : Type 1} → statement M
+pub read_version_spec : {M : Type 1} → statement M
 unfolding version ◌>>=◌ here
-read-version-spec =
+read_version_spec =
     tie.close
     (tie.spec
     (λ c κs. search rules)
@@ -28,5 +26,5 @@ read-version-spec =
     (λ c. search rules)
     (λ c κs. search rules)
     returns
-    (λ c. rw (← c.before.before.before.read-extended.ensures, c.before.refusal.given.1))
+    (λ c. rw (← c.read_extended.ensures, c.in-Refused.is))
     returns-3)

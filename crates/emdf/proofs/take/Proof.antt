@@ -15,71 +15,53 @@ use Rattle.emdf.proofs.take.Statement.{statement}
 use Rattle.emdf.proofs.take.Tie as tie
 
 -- the answer is that of the whole container
-answer : (c : tie.After-find-object) →
-    let s = c.before.before.before.before.before.before.args.container.now in
-    said c.find-object.result ≡ near (opening s (length s * 8) 0)
-answer c = rw c.before.bits.ensures at c.find-object.ensures
+answer : (c : tie.After-find_object) →
+    said c.find_object.result ≡ near (opening c.args.container.now (length c.args.container.now * 8) 0)
+answer c = rw c.bits-limit.ensures at c.find_object.ensures
 
-returns : tie.Need-returns
+returns : tie.Need-returns-then-buffer-lt-PAYLOAD_LIMIT
 unfolding payload_limit
-returns c = short-buffer _ _ c.if1.true
+returns c = short-buffer _ _ c.if-buffer-lt-PAYLOAD_LIMIT.true
 
-returns-2 : tie.Need-returns-2
+returns-2 : tie.Need-returns-then-container-gt-CONTAINER_LIMIT
 unfolding payload_limit container_limit
-returns-2 c = too_long _ _ c.before.if1.false c.if2.true
+returns-2 c = too_long _ _ c.if-buffer-lt-PAYLOAD_LIMIT.false c.if-container-gt-CONTAINER_LIMIT.true
 
-find-object-requires : tie.Need-find-object-requires
+find-object-requires : tie.Need-find_object-requires
 unfolding container_limit
 find-object-requires c κs = search rules
 
 -- the object payload that was found is there whole
-its-end : (c : tie.After-enum-told) →
-    let z = c.before.before.before.before.before in
-    z.size.given.0.1.0.0 + z.size.given.0.0 * 8 ≤ length z.before.before.before.before.before.before.before.before.args.container.now * 8
+its-end : (c : tie.In-To) →
+    c.in-Value.first.0 + c.in-Value.size * 8 ≤ length c.args.container.now * 8
 its-end c =
-    let k = c.before.before in
-    let z = k.before.before.before in
-    let s = z.before.before.before.before.before.before.before.before.args.container.now in
-    omega (arith, z.before.before.before.bits.ensures, told said_passed (pass-tells _) (k.skip.ensures s) c.enum_told.given.1)
+    omega (arith, c.bits-limit.ensures, told said_passed (pass-tells _) (c.skip.ensures c.args.container.now) c.in-To.is)
 
-copy-bytes-requires : tie.Need-copy-bytes-requires
+copy-bytes-requires : tie.Need-copy_bytes-requires
 unfolding payload_limit
 copy-bytes-requires c κs = omega (arith, its-end c.before)
 
-returns-3 : tie.Need-returns-3
+returns-3 : tie.Need-returns-then-size-gt-PAYLOAD_LIMIT
 unfolding payload_limit container_limit
 returns-3 c =
-    let z = c.before.before in
-    let f = z.before.before in
-    too_large _ _ f.before.before.before.if1.false f.before.before.if2.false (rw z.size.given.1 at (answer f)) c.if3.true
+    too_large _ _ c.if-buffer-lt-PAYLOAD_LIMIT.false c.if-container-gt-CONTAINER_LIMIT.false (rw c.in-Value.is at (answer c.before.before)) c.if-size-gt-PAYLOAD_LIMIT.true
 
-returns-4 : tie.Need-returns-4
+returns-4 : tie.Need-returns-in-Refused
 unfolding payload_limit container_limit
 returns-4 c =
-    let r = c.before.before in
-    let f = r.before.before in
-    not_found _ _ f.before.before.before.if1.false f.before.before.if2.false (rw r.refusal.given.1 at (answer f))
+    not_found _ _ c.if-buffer-lt-PAYLOAD_LIMIT.false c.if-container-gt-CONTAINER_LIMIT.false (rw c.in-Refused.is at (answer c.before.before))
 
-returns-5 : tie.Need-returns-5
+returns-5 : tie.Need-returns-in-Refused-skip
 unfolding payload_limit container_limit
 returns-5 c =
-    let r = c.before.before in
-    let k = r.before.before in
-    let z = k.before.before.before in
-    let f = z.before.before in
-    let s = f.before.before.before.before.before.before.args.container.now in
-    cut_short _ _ f.before.before.before.if1.false f.before.before.if2.false (rw z.size.given.1 at (answer f)) k.before.if3.false
-    (rw (f.before.bits.ensures, r.refusal2.given.1) at (k.skip.ensures s))
+    cut_short _ _ c.if-buffer-lt-PAYLOAD_LIMIT.false c.if-container-gt-CONTAINER_LIMIT.false (rw c.in-Value.is at (answer c.before.before.before.before.before)) c.if-size-gt-PAYLOAD_LIMIT.false
+    (rw (c.bits-limit.ensures, c.in-Refused-skip.is) at (c.skip.ensures c.args.container.now))
 
-returns-6 : tie.Need-returns-6
+returns-6 : tie.Need-returns-in-To
 unfolding payload_limit container_limit
 returns-6 c =
-    let t = c.before.before.before.before in
-    let i = t.before.before.before in
-    let z = i.before.before in
-    let f = z.before.before in
-    copied _ _ f.before.before.before.if1.false f.before.before.if2.false (rw z.size.given.1 at (answer f)) i.if3.false
-    (its-end t) c.before.before.copy-bytes.ensures
+    copied _ _ c.if-buffer-lt-PAYLOAD_LIMIT.false c.if-container-gt-CONTAINER_LIMIT.false (rw c.in-Value.is at (answer c.before.before.before.before.before.before.before.before)) c.if-size-gt-PAYLOAD_LIMIT.false
+    (its-end c.before.before.before.before) c.copy_bytes.ensures
 
 pub take_spec : {M : Type 1} → statement M
 take_spec =

@@ -23,62 +23,51 @@ use Rattle.objects.proofs.parse_object_element.Tie as tie
 
 -- back from the timings
 
-abbrev entry : tie.After-parse-block-timings → tie.Start
+abbrev entry : tie.After-parse_block_timings → tie.Start
 entry c = c.before.before.before.before
 
-abbrev timed : tie.After-block-count → tie.After-parse-block-timings
-timed c = c.before.before.before.before
+abbrev timed : tie.In-Value → tie.After-parse_block_timings
+timed c = c.before.before.before
 
 -- what is left to read goes by what stands before the objects
-at_head : (c : tie.After-parse-block-timings) {r : Number} → c.parse-block-timings.result ≡ r →
-    let a = (entry c).args in
-    let n = length a.kinds.now in
-    let ks = map kind_of a.kinds.now in
-    let t = c.parse-block-timings.new.1.1.1.0 in
-    Filling timings_length (map_parsed (left_by (rows_of n a.start.now) a.timings.now a.blocks.now) (object_element ks a.payload.now a.limit.0 a.at.0)) a.timings.now
-    (and_then (timed_as t r) (λ h q. map_parsed (left h.count h.table) (objects_from n h.count a.start.now 0 ks a.blocks.now a.payload.now a.limit.0 q)))
-    t
+at_head : (c : tie.After-parse_block_timings) {r : Number} → c.parse_block_timings.result ≡ r →
+    let n = length (entry c).args.kinds.now in
+    let ks = map kind_of (entry c).args.kinds.now in
+    Filling timings_length (map_parsed (left_by (rows_of n (entry c).args.start.now) (entry c).args.timings.now (entry c).args.blocks.now) (object_element ks (entry c).args.payload.now (entry c).args.limit.0 (entry c).args.at.0)) (entry c).args.timings.now
+    (and_then (timed_as c.parse_block_timings.new.timings r) (λ h q. map_parsed (left h.count h.table) (objects_from n h.count (entry c).args.start.now 0 ks (entry c).args.blocks.now (entry c).args.payload.now (entry c).args.limit.0 q)))
+    c.parse_block_timings.new.timings
 at_head c e =
     let start = entry c in
-    let room = start.pre in
-    on (timed_as _) _ (begin (element-read _ _ _ _ _ _ _ _ (length-map start.args.kinds.now kind_of) room.few room.for_blocks)) c.parse-block-timings.ensures (omega arith) e
+    on (timed_as _) _ (begin (element-read _ _ _ _ _ _ _ _ (length-map start.args.kinds.now kind_of) start.requires.few start.requires.for_blocks)) c.parse_block_timings.ensures (omega arith) e
 
-cut-timings : tie.Need-returns
-cut-timings c = element-left _ _ (at_head c.before.before.before.before.before c.before.refusal.given.1) refl refl
+cut-timings : tie.Need-returns-in-Refused
+cut-timings c = element-left _ _ (at_head c.before.before.before c.in-Refused.is) refl refl
 
 -- the rows fit their table
-used : (c : tie.After-block-count) →
-    let a = (entry (timed c)).args in
-    c.block-count.given.0.0 * length a.kinds.now * row_width ≤ blocks_length
+used : (c : tie.In-Value) →
+    c.in-Value.block_count * length (entry (timed c)).args.kinds.now * row_width ≤ blocks_length
 unfolding map_p
 used c =
     let h = timed c in
-    let a = (entry h).args in
-    fit _ _ (gives (timed_as _) (few-timed _) (sym {a = map_p (timed_by a.timings.now) block_timings a.payload.now a.limit.0 a.at.0} h.parse-block-timings.ensures.same) c.block-count.given.1) (entry h).pre.few
+    fit _ _ (gives (timed_as _) (few-timed _) (sym {a = map_p (timed_by (entry h).args.timings.now) block_timings (entry h).args.payload.now (entry h).args.limit.0 (entry h).args.at.0} h.parse_block_timings.ensures.same) c.in-Value.is) (entry h).requires.few
 
-parse-objects-requires : tie.Need-parse-objects-requires
-parse-objects-requires c κs = let u = used c.before.before in search rules
+parse-objects-requires : tie.Need-parse_objects-requires
+parse-objects-requires c κs = let u = used c.before in search rules
 
-abbrev objects-read : tie.After-block-count → Parsed (List ℤ)
+abbrev objects-read : tie.In-Value → Parsed (List ℤ)
 objects-read c =
-    let a = (entry (timed c)).args in
-    let b = c.block-count.given.0 in
-    objects_from (length a.kinds.now) b.0 a.start.now 0 (map kind_of a.kinds.now) a.blocks.now a.payload.now a.limit.0 b.1.0.0
+    objects_from (length (entry (timed c)).args.kinds.now) c.in-Value.block_count (entry (timed c)).args.start.now 0 (map kind_of (entry (timed c)).args.kinds.now) (entry (timed c)).args.blocks.now (entry (timed c)).args.payload.now (entry (timed c)).args.limit.0 c.in-Value.next.0
 
-cut-objects : tie.Need-returns-2
+cut-objects : tie.Need-returns-in-Refused-parse_objects
 cut-objects c =
-    let o = c.before.before.before.before in
-    let b = o.before.before.before in
-    objects-left {x = objects-read b} _ _ _ (at_head (timed b) b.block-count.given.1) o.parse-objects.ensures (used b) c.before.refusal2.given.1 refl
+    objects-left {x = objects-read c.before.before.before.before} _ _ _ (at_head (timed c.before.before.before.before) c.in-Value.is) c.parse_objects.ensures (used c.before.before.before.before) c.in-Refused-parse_objects.is refl
 
-all : tie.Need-returns-3
+all : tie.Need-returns-in-To
 all c =
-    let o = c.before.before.before.before in
-    let b = o.before.before.before in
-    objects-left {x = objects-read b} _ _ _ (at_head (timed b) b.block-count.given.1) o.parse-objects.ensures (used b) c.before.end.given.1 refl
+    objects-left {x = objects-read c.before.before.before.before} _ _ _ (at_head (timed c.before.before.before.before) c.in-Value.is) c.parse_objects.ensures (used c.before.before.before.before) c.in-To.is refl
 
-pub parse-object-element-spec : {M : Type 1} → statement M
-parse-object-element-spec =
+pub parse_object_element_spec : {M : Type 1} → statement M
+parse_object_element_spec =
     tie.close
     (tie.spec
     (λ c κs. search rules)

@@ -9,15 +9,15 @@ use Rattle.update.proofs.Bounds.{status-lt}
 use Rattle.update.proofs.read_render_of.Statement.{statement}
 use Rattle.update.proofs.read_render_of.Tie as tie
 
-read-render-info-requires : tie.Need-read-render-info-requires
-read-render-info-requires c κs = gives said (status-lt _ _) c.before.before.before.read-status.ensures c.before.status.given.1
+read-render-info-requires : tie.Need-read_render_info-requires
+read-render-info-requires c κs = gives said (status-lt _ _) c.read_status.ensures c.in-Value.is
 
-pub read-render-of-spec : {M : Type 1} → statement M
+pub read_render_of_spec : {M : Type 1} → statement M
 unfolding render_of ◌>>=◌ pure here
-read-render-of-spec =
+read_render_of_spec =
     tie.close
     (tie.spec
-    (λ c κs. search rules) (λ c. rw (fixed c.before.before.before.ranges.kind c.before.is-dynamic.ensures c.if1.true)) (λ c κs. search rules)
+    (λ c κs. search rules) (λ c. rw (fixed c.ranges.kind c.is_dynamic.ensures c.if-not-is_dynamic.true-raw)) (λ c κs. search rules)
     (λ c. search rules) (λ c. search rules) read-render-info-requires
-    (λ c. rw (dynamic c.before.before.before.before.before.before.before.ranges.kind c.before.before.before.before.before.is-dynamic.ensures c.before.before.before.before.if1.false, came said c.before.before.before.read-status.ensures c.before.refusal.given.1))
-    (λ c. rw (dynamic c.before.before.before.before.before.before.before.before.ranges.kind c.before.before.before.before.before.before.is-dynamic.ensures c.before.before.before.before.before.if1.false, came said c.before.before.before.before.read-status.ensures c.before.before.status.given.1) c.read-render-info.ensures))
+    (λ c. rw (dynamic c.ranges.kind c.is_dynamic.ensures c.if-not-is_dynamic.false-raw, came said c.read_status.ensures c.in-Refused.is))
+    (λ c. rw (dynamic c.ranges.kind c.is_dynamic.ensures c.if-not-is_dynamic.false-raw, came said c.read_status.ensures c.in-Value.is) c.read_render_info.ensures))

@@ -13,37 +13,33 @@ use Rattle.update.proofs.Bounds.{status-lt}
 use Rattle.update.proofs.read_state.Statement.{statement}
 use Rattle.update.proofs.read_state.Tie as tie
 
-read-basic-info-requires : tie.Need-read-basic-info-requires
-read-basic-info-requires c κs = gives said (status-lt _ _) c.before.before.before.read-status.ensures c.before.status.given.1
+read-basic-info-requires : tie.Need-read_basic_info-requires
+read-basic-info-requires c κs = gives said (status-lt _ _) c.read_status.ensures c.in-Value.is
 
 -- basic information was read, or refused
-at-basic : (c : tie.After-read-basic-info) →
-    let a = c.before.before.before.before.before.before.before.args in
-    active_update (kind_of a.kind) a.first a.payload.now a.limit.0 a.at.0
-    ≡ and_then (basic_read c.read-basic-info.result) (λ b. (render_of (kind_of a.kind) a.first >>= λ r. pure (active b r)) a.payload.now a.limit.0)
+at-basic : (c : tie.After-read_basic_info) →
+    active_update (kind_of c.args.kind) c.args.first c.args.payload.now c.args.limit.0 c.args.at.0
+    ≡ and_then (basic_read c.read_basic_info.result) (λ b. (render_of (kind_of c.args.kind) c.args.first >>= λ r. pure (active b r)) c.args.payload.now c.args.limit.0)
 unfolding active_update ◌>>=◌ here
 at-basic c =
-    let status = c.before.before in
-    rw (came said status.before.before.read-status.ensures status.status.given.1, c.read-basic-info.ensures)
+    rw (came said c.read_status.ensures c.in-Value.is, c.read_basic_info.ensures)
 
 -- and render information; the kind is handed on as its bits
-at-render : (c : tie.After-read-render-of) →
-    let a = c.before.before.before.before.before.before.before.before.before.before.before.args in
-    active_update (kind_of a.kind) a.first a.payload.now a.limit.0 a.at.0
-    ≡ and_then (render_read c.read-render-of.result) (λ r. pure (active (basic_said c.before.before.next.given.0.1.0) r) a.payload.now a.limit.0)
+at-render : (c : tie.After-read_render_of) →
+    active_update (kind_of c.args.kind) c.args.first c.args.payload.now c.args.limit.0 c.args.at.0
+    ≡ and_then (render_read c.read_render_of.result) (λ r. pure (active (basic_said c.in-Words.basic) r) c.args.payload.now c.args.limit.0)
 unfolding ◌>>=◌
 at-render c =
-    let basic = c.before.before in
-    rw (at-basic basic.before.before, basic.next.given.1, c.read-render-of.ensures, to_z-of_z basic.before.before.before.before.before.before.before.before.before.ranges.kind)
+    rw (at-basic c.before.before, c.in-Words.is, c.read_render_of.ensures, to_z-of_z c.ranges.kind)
 
-pub read-state-spec : {M : Type 1} → statement M
+pub read_state_spec : {M : Type 1} → statement M
 unfolding active_update ◌>>=◌ pure here
-read-state-spec =
+read_state_spec =
     tie.close
     (tie.spec
-    (λ c. rw c.if1.true) (λ c κs. search rules) (λ c. search rules) (λ c. search rules) read-basic-info-requires
+    (λ c. rw c.if-inactive.true) (λ c κs. search rules) (λ c. search rules) (λ c. search rules) read-basic-info-requires
     (λ c. search rules) (λ c. search rules) (λ c κs. search rules) (λ c. search rules) (λ c. search rules)
-    (λ c. rw (c.before.before.before.before.if1.false, came said c.before.before.before.read-status.ensures c.before.refusal.given.1))
-    (λ c. rw (c.before.before.before.before.before.before.before.before.if1.false, at-basic c.before.before.before, c.before.refusal2.given.1))
-    (λ c. rw (c.before.before.before.before.before.before.before.before.before.before.before.before.if1.false, at-render c.before.before.before, c.before.refusal3.given.1))
-    (λ c. rw (c.before.before.before.before.before.before.before.before.before.before.before.before.if1.false, at-render c.before.before.before, c.before.end.given.1)))
+    (λ c. rw (c.if-inactive.false, came said c.read_status.ensures c.in-Refused.is))
+    (λ c. rw (c.if-inactive.false, at-basic c.before, c.in-Refused-read_basic_info.is))
+    (λ c. rw (c.if-inactive.false, at-render c.before, c.in-Refused-read_render_of.is))
+    (λ c. rw (c.if-inactive.false, at-render c.before, c.in-Words-read_render_of.is)))

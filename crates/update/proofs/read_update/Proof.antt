@@ -12,23 +12,21 @@ use Rattle.update.proofs.read_update.Statement.{statement}
 use Rattle.update.proofs.read_update.Tie as tie
 
 -- The state was read, or refused. The kind is handed on as its bits.
-at-state : (c : tie.After-read-state) →
-    let a = c.before.before.before.before.before.before.args in
-    update (kind_of a.kind) a.first a.payload.now a.limit.0 a.at.0
-    ≡ and_then (update_read c.read-state.result) (λ u. (table_data >> pure u) a.payload.now a.limit.0)
+at-state : (c : tie.After-read_state-state) →
+    update (kind_of c.args.kind) c.args.first c.args.payload.now c.args.limit.0 c.args.at.0
+    ≡ and_then (update_read c.read_state-state.result) (λ u. (table_data >> pure u) c.args.payload.now c.args.limit.0)
 unfolding update ◌>>=◌ ◌>>◌ pure here
 at-state c =
-    let inactive = c.before.before in
-    rw (came said_flag inactive.before.before.read-flag.ensures inactive.inactive.given.1, c.read-state.ensures, to_z-of_z inactive.before.before.before.before.ranges.kind)
+    rw (came said_flag c.read_flag.ensures c.in-Is.is, c.read_state-state.ensures, to_z-of_z c.ranges.kind)
 
-pub read-update-spec : {M : Type 1} → statement M
+pub read_update_spec : {M : Type 1} → statement M
 unfolding update ◌>>=◌ ◌>>◌ pure here
-read-update-spec =
+read_update_spec =
     tie.close
     (tie.spec
     (λ c κs. search rules) (λ c. search rules) (λ c. search rules) (λ c κs. search rules) (λ c. search rules)
-    (λ c. search rules) (λ c. rw (at-state c.before.before, c.enum_told.given.1)) (λ c κs. search rules)
+    (λ c. search rules) (λ c. rw (at-state c.before, c.in_default.is)) (λ c κs. search rules)
     (λ c. search rules) (λ c. search rules)
-    (λ c. rw (came said_flag c.before.before.before.read-flag.ensures c.before.refusal.given.1))
-    (λ c. let state = c.before.before.before.before.before in rw (at-state state.before.before, state.state.given.1, came said_passed c.before.before.before.skip-table-data.ensures c.before.refusal2.given.1))
-    (λ c. let state = c.before.before.before.before.before in rw (at-state state.before.before, state.state.given.1, came said_passed c.before.before.before.skip-table-data.ensures c.before.end.given.1)))
+    (λ c. rw (came said_flag c.read_flag.ensures c.in-Refused.is))
+    (λ c. rw (at-state c.before.before.before, c.in-Words.is, came said_passed c.skip_table_data.ensures c.in-Refused-skip_table_data.is))
+    (λ c. rw (at-state c.before.before.before, c.in-Words.is, came said_passed c.skip_table_data.ensures c.in-To.is)))

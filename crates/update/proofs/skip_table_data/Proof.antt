@@ -8,23 +8,22 @@ use Rattle.standard.specs.Updates.{table_data}
 use Rattle.update.proofs.skip_table_data.Statement.{statement}
 use Rattle.update.proofs.skip_table_data.Tie as tie
 
-returns-3 : tie.Need-returns-3
+returns-3 : tie.Need-returns-else-not-there
 unfolding table_data ◌>>=◌ pure
 returns-3 c =
-    let there = c.before.before.before in
     rw (
-      came said_flag there.before.before.read-flag.ensures there.there.given.1,
-      not-false there.there.given.0.0 c.before.if1.false,
+      came said_flag c.read_flag.ensures c.in-Is.is,
+      not-false c.in-Is.there c.if-not-there.false-raw,
     )
-    c.skip-bytes.ensures
+    c.skip_bytes.ensures
 
-pub skip-table-data-spec : {M : Type 1} → statement M
+pub skip_table_data_spec : {M : Type 1} → statement M
 unfolding table_data ◌>>=◌ pure
-skip-table-data-spec =
+skip_table_data_spec =
     tie.close
     (tie.spec
     (λ c κs. search rules) (λ c. search rules) (λ c. search rules)
-    (λ c. rw (came said_flag c.before.before.before.before.read-flag.ensures c.before.before.there.given.1, not-true c.before.before.there.given.0.0 c.if1.true))
+    (λ c. rw (came said_flag c.read_flag.ensures c.in-Is.is, not-true c.in-Is.there c.if-not-there.true-raw))
     (λ c κs. search rules)
-    (λ c. rw (came said_flag c.before.before.before.read-flag.ensures c.before.refusal.given.1))
+    (λ c. rw (came said_flag c.read_flag.ensures c.in-Refused.is))
     returns-3)

@@ -7,26 +7,22 @@ use Rattle.assignment.specs.Parts.{bed_channels}
 use Rattle.assignment.proofs.beds.parse_bed.Statement.{statement}
 use Rattle.assignment.proofs.beds.parse_bed.Tie as tie
 
-returns : tie.Need-returns
+returns : tie.Need-returns-then-lfe_only
 unfolding one_bed ◌>>=◌ pure extend onto
 returns c =
-    let p = c.before in
-    let f = p.before.before.before.before in
-    rw (p.push.ensures, ← f.before.before.read-flag.ensures, f.lfe-only.given.1, p.before.before.if1.true)
+    rw (c.push.ensures, ← c.read_flag.ensures, c.in-Is.is, c.if-lfe_only.true)
 
-returns-2 : tie.Need-returns-2
+returns-2 : tie.Need-returns-in-Refused
 unfolding one_bed ◌>>=◌ onto
-returns-2 c = rw (← c.before.before.before.read-flag.ensures, c.before.refusal.given.1)
+returns-2 c = rw (← c.read_flag.ensures, c.in-Refused.is)
 
-returns-3 : tie.Need-returns-3
+returns-3 : tie.Need-returns-else-lfe_only
 unfolding one_bed bed_channels ◌>>=◌
 returns-3 c =
-    let p = c.before in
-    let f = p.before.before.before.before in
-    rw (← f.before.before.read-flag.ensures, f.lfe-only.given.1, p.before.before.if1.false) p.parse-bed-channels.ensures
+    rw (← c.read_flag.ensures, c.in-Is.is, c.if-lfe_only.false) c.parse_bed_channels.ensures
 
-pub parse-bed-spec : {M : Type 1} → statement M
-parse-bed-spec =
+pub parse_bed_spec : {M : Type 1} → statement M
+parse_bed_spec =
     tie.close
     (tie.spec
     (λ c κs. search rules)

@@ -22,47 +22,37 @@ decreases-loop payload limit bed-count kinds₀ count₀ place₀ counter₀ kin
 
 loop-holds : tie.Need-loop-init invariant-loop decreases-loop
 loop-holds c =
-    let a = c.before.args in
-    let k : a.bed-count - 0 ≡ a.bed-count = omega arith in
+    let k : c.args.bed_count - 0 ≡ c.args.bed_count = omega arith in
     (omega arith, (refl, rw k))
 
 -- a bed is read, and then those that are left
-at-bed : (c : tie.After-parse-bed invariant-loop decreases-loop) →
-    let l = c.before.before.before in
-    let a = l.before.before.args in
-    onto (holding 0 a.kinds.now) (map_p joined (times a.bed-count one_bed) a.payload.now a.limit.0 a.at.0)
-    ≡ and_then (said_table c.parse-bed.result c.parse-bed.new.1.1.1.0) (λ t q. onto t (map_p joined (times (a.bed-count - (l.loop.counter + 1)) one_bed) a.payload.now a.limit.0 q))
+at-bed : (c : tie.After-parse_bed-bed invariant-loop decreases-loop) →
+    onto (holding 0 c.args.kinds.now) (map_p joined (times c.args.bed_count one_bed) c.args.payload.now c.args.limit.0 c.args.at.0)
+    ≡ and_then (said_table c.parse_bed-bed.result c.parse_bed-bed.new.kinds) (λ t q. onto t (map_p joined (times (c.args.bed_count - (c.loop.counter + 1)) one_bed) c.args.payload.now c.args.limit.0 q))
 at-bed c =
-    let l = c.before.before.before in
-    let a = l.before.before.args in
-    let k : a.bed-count - l.loop.counter ≡ suc (a.bed-count - (l.loop.counter + 1)) = omega arith in
-    rw (c.parse-bed.ensures, ← l.loop.invariant.1.1, k) (onto-more _ _ _ _ _ _)
+    let k : c.args.bed_count - c.loop.counter ≡ suc (c.args.bed_count - (c.loop.counter + 1)) = omega arith in
+    rw (c.parse_bed-bed.ensures, ← c.loop.invariant.1.1, k) (onto-more _ _ _ _ _ _)
 
-same_length : tie.Need-same-length invariant-loop decreases-loop
+same_length : tie.Need-shape_of-kinds-in_default invariant-loop decreases-loop
 same_length c =
-    let p = c.before.before.before in
-    p.parse-bed.auto.1.1.1.0 ∙ p.before.before.before.loop.invariant.1.0
+    c.parse_bed-bed.auto.kinds ∙ c.loop.invariant.1.0
 
-returns : tie.Need-returns invariant-loop decreases-loop
-returns c = rw (at-bed c.before.before.before, c.enum_told.given.1)
+returns : tie.Need-returns-in_default invariant-loop decreases-loop
+returns c = rw (at-bed c.before.before, c.in_default.is)
 
 loop-again : tie.Need-loop-preserved invariant-loop decreases-loop
 loop-again c =
-    let p = c.before.before.before.before in
-    let l = p.before.before.before in
-    let g = grown (holding l.loop.count l.loop.kinds) 17 one-bed-le _ _ _ _ p.parse-bed.ensures c.before.bed.given.1 in
-    (omega arith, (p.parse-bed.auto.1.1.1.0 ∙ l.loop.invariant.1.0, rw (at-bed p, c.before.bed.given.1)))
+    let g = grown (holding c.loop.count c.loop.kinds) 17 one-bed-le _ _ _ _ c.parse_bed-bed.ensures c.in-Value.is in
+    (omega arith, (c.parse_bed-bed.auto.kinds ∙ c.loop.invariant.1.0, rw (at-bed c.before.before, c.in-Value.is)))
 
-returns-2 : tie.Need-returns-2 invariant-loop decreases-loop
+returns-2 : tie.Need-returns invariant-loop decreases-loop
 unfolding ◌>>=◌ map_p pure times joined extend onto
 returns-2 c =
-    let l = c.before in
-    let a = l.before.before.args in
-    let k : a.bed-count - l.loop.counter ≡ 0 = omega arith in
-    rw k at l.loop.invariant.1.1
+    let k : c.args.bed_count - c.loop.counter ≡ 0 = omega arith in
+    rw k at c.loop.invariant.1.1
 
-pub parse-bed-instances-spec : {M : Type 1} → statement M
-parse-bed-instances-spec =
+pub parse_bed_instances_spec : {M : Type 1} → statement M
+parse_bed_instances_spec =
     tie.close
     (tie.spec
     invariant-loop
@@ -76,5 +66,5 @@ parse-bed-instances-spec =
     (λ c. search rules)
     (λ c. search rules)
     loop-again
-    (λ c. c.before.loop.invariant.1.0)
+    (λ c. c.loop.invariant.1.0)
     returns-2)

@@ -16,43 +16,36 @@ use Rattle.assignment.proofs.Growth.{bed-count-le}
 use Rattle.assignment.proofs.beds.parse_beds.Statement.{statement}
 use Rattle.assignment.proofs.beds.parse_beds.Tie as tie
 
-returns : tie.Need-returns
-returns c = rw (not-true c.before.before.args.present c.if1.true, onto-none)
+returns : tie.Need-returns-then-not-present
+returns c = rw (not-true c.args.present c.if-not-present.true-raw, onto-none)
 
 -- the count, and then the beds
-at_count : (c : tie.After-read-bed-count) →
-    let a = c.before.before.before.before.before.before.before.args in
-    cond a.present beds (pure []) a.payload.now a.limit.0 a.at.0
-    ≡ and_then (said c.read-bed-count.result) (λ n q. map_p joined (times n one_bed) a.payload.now a.limit.0 q)
+at_count : (c : tie.After-read_bed_count-beds) →
+    cond c.args.present beds (pure []) c.args.payload.now c.args.limit.0 c.args.at.0
+    ≡ and_then (said c.read_bed_count-beds.result) (λ n q. map_p joined (times n one_bed) c.args.payload.now c.args.limit.0 q)
 unfolding ◌>>=◌ ◌>>◌
 at_count c =
-    let d = c.before.before in
-    let f = d.before.before.before in
-    rw (not-false f.before.before.args.present f.if1.false, counted-beds, ← d.before.before.read-flag.ensures, d.-distribute.given.1, c.read-bed-count.ensures)
+    rw (not-false c.args.present c.if-not-present.false-raw, counted-beds, ← c.read_flag.ensures, c.in-Is.is, c.read_bed_count-beds.ensures)
 
-returns-2 : tie.Need-returns-2
+returns-2 : tie.Need-returns-in_default
 unfolding onto
-returns-2 c = rw (at_count c.before.before, c.enum_told.given.1)
+returns-2 c = rw (at_count c.before, c.in_default.is)
 
-parse-bed-instances-requires : tie.Need-parse-bed-instances-requires
+parse-bed-instances-requires : tie.Need-parse_bed_instances-requires
 parse-bed-instances-requires c κs =
-    let n = c.before.before in
-    omega (arith, gives said bed-count-le n.before.before.read-bed-count.ensures n.beds.given.1)
+    omega (arith, gives said bed-count-le c.read_bed_count-beds.ensures c.in-Value.is)
 
-returns-3 : tie.Need-returns-3
+returns-3 : tie.Need-returns-in-Refused
 unfolding ◌>>◌ onto
 returns-3 c =
-    let f = c.before.before.before.before in
-    rw (not-false f.before.before.args.present f.if1.false, counted-beds, ← c.before.before.before.read-flag.ensures, c.before.refusal.given.1)
+    rw (not-false c.args.present c.if-not-present.false-raw, counted-beds, ← c.read_flag.ensures, c.in-Refused.is)
 
-returns-4 : tie.Need-returns-4
+returns-4 : tie.Need-returns-in-Value
 returns-4 c =
-    let p = c.before in
-    let n = p.before.before.before in
-    rw (at_count n.before.before, n.beds.given.1) p.parse-bed-instances.ensures
+    rw (at_count c.before.before.before.before, c.in-Value.is) c.parse_bed_instances.ensures
 
-pub parse-beds-spec : {M : Type 1} → statement M
-parse-beds-spec =
+pub parse_beds_spec : {M : Type 1} → statement M
+parse_beds_spec =
     tie.close
     (tie.spec
     returns

@@ -11,24 +11,21 @@ use Rattle.assignment.specs.Parts.{bed_count}
 use Rattle.assignment.proofs.beds.read_bed_count.Statement.{statement}
 use Rattle.assignment.proofs.beds.read_bed_count.Tie as tie
 
-returns : tie.Need-returns
+returns : tie.Need-returns-then-not-multiple_beds
 unfolding bed_count ◌>>=◌ pure
 returns c =
-    let f = c.before.before in
-    rw (← f.before.before.read-flag.ensures, f.multiple-beds.given.1, not-true f.multiple-beds.given.0.0 c.if1.true)
+    rw (← c.read_flag.ensures, c.in-Is.is, not-true c.in-Is.multiple_beds c.if-not-multiple_beds.true-raw)
 
 -- the flag is set
 at_read : (c : tie.After-read) →
-    let a = c.before.before.before.before.before.before.before.args in
-    bed_count a.payload.now a.limit.0 a.at.0 ≡ map_parsed (λ n. n + 2) (said c.read.result)
+    bed_count c.args.payload.now c.args.limit.0 c.args.at.0 ≡ map_parsed (λ n. n + 2) (said c.read.result)
 unfolding bed_count ◌>>=◌ map_p
 at_read c =
-    let f = c.before.before.before in
-    rw (← f.before.before.read-flag.ensures, f.multiple-beds.given.1, not-false f.multiple-beds.given.0.0 c.before.if1.false, c.read.ensures)
+    rw (← c.read_flag.ensures, c.in-Is.is, not-false c.in-Is.multiple_beds c.if-not-multiple_beds.false-raw, c.read.ensures)
 
-pub read-bed-count-spec : {M : Type 1} → statement M
+pub read_bed_count_spec : {M : Type 1} → statement M
 unfolding bed_count ◌>>=◌
-read-bed-count-spec =
+read_bed_count_spec =
     tie.close
     (tie.spec
     (λ c κs. search rules)
@@ -38,7 +35,7 @@ read-bed-count-spec =
     (λ c κs. search rules)
     (λ c. search rules)
     (λ c. search rules)
-    (λ c. omega (arith, gives said (read-lt _ _) c.before.before.before.read.ensures c.before.coded.given.1))
-    (λ c. rw (← c.before.before.before.read-flag.ensures, c.before.refusal.given.1))
-    (λ c. rw (at_read c.before.before.before, c.before.refusal2.given.1))
-    (λ c. rw (at_read c.before.before.before, c.before.coded.given.1)))
+    (λ c. omega (arith, gives said (read-lt _ _) c.read.ensures c.in-Value.is))
+    (λ c. rw (← c.read_flag.ensures, c.in-Refused.is))
+    (λ c. rw (at_read c.before, c.in-Refused-read.is))
+    (λ c. rw (at_read c.before, c.in-Value.is)))

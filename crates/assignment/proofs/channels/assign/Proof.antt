@@ -4,14 +4,14 @@ use Rattle.assignment.specs.Kinds.{onto}
 use Rattle.assignment.proofs.channels.assign.Statement.{statement}
 use Rattle.assignment.proofs.channels.assign.Tie as tie
 
-pub assign-spec : {M : Type 1} → statement M
+pub assign_spec : {M : Type 1} → statement M
 unfolding onto
-assign-spec =
+assign_spec =
     tie.close
     (tie.spec
     (λ c. search rules)
     (λ c. search rules)
     (λ c κs. search rules)
-    (λ c. rw c.before.answer.given.1)
+    (λ c. rw c.in-Refused.is)
     (λ c. search rules)
-    (λ c. rw (c.before.extend-chosen.ensures, c.before.before.before.before.answer2.given.1)))
+    (λ c. rw (c.extend_chosen.ensures, c.in-Value.is)))

@@ -11,41 +11,33 @@ use Rattle.assignment.proofs.Chosen.{codes_from, chosen-all, chosen_none, chosen
 use Rattle.assignment.proofs.channels.extend_chosen.Statement.{statement}
 use Rattle.assignment.proofs.channels.extend_chosen.Tie as tie
 
-abbrev invariant-loop : tie.invariant-loop
+abbrev invariant-loop : tie.invariant-loop-index
 invariant-loop kinds₀ count assignment widths second-lfe total₀ index₀ index-end kinds total index =
     ((index ≤ length widths) × (total ≤ count + 255 * index))
     × ((length kinds ≡ length kinds₀) × (extend (codes_from second-lfe index widths assignment) (holding total kinds) ≡ extend (codes_from second-lfe 0 widths assignment) (holding count kinds₀)))
 
-abbrev decreases-loop : tie.decreases-loop
+abbrev decreases-loop : tie.decreases-loop-index
 decreases-loop kinds₀ count assignment widths second-lfe total₀ index₀ index-end kinds total index = length widths - index
 
-loop-holds : tie.Need-loop-init invariant-loop decreases-loop
+loop-holds : tie.Need-loop-index-init invariant-loop decreases-loop
 loop-holds c = (omega arith, (refl, refl))
 
-extend-if-requires : tie.Need-extend-if-requires invariant-loop decreases-loop
-extend-if-requires c κs = omega (arith, c.shared-slice-known2.given c.before.before.before.before.before.loop.index)
+extend-if-requires : tie.Need-extend_if-total-requires invariant-loop decreases-loop
+extend-if-requires c κs = omega (arith, c.shared_slice_known-in-loop-index-1.given c.loop-index.index)
 
-loop-again : tie.Need-loop-preserved invariant-loop decreases-loop
+loop-again : tie.Need-loop-index-preserved invariant-loop decreases-loop
 loop-again c =
-    let x = c.before in
-    let k = x.before.before.before in
-    let l = k.before.before.before in
-    let a = l.before.before.args in
-    let i = l.loop.index in
-    let e = x.extend-if.ensures in
-    let g = cond-grown k.before.is_set.result (get_or a.widths.now i 0) _ (holding l.loop.total l.loop.kinds) e in
-    let t = sym (chosen_more a.second-lfe a.widths.now a.assignment i (omega arith) _) ∙ l.loop.invariant.1.1 in
-    (omega (arith, x.before.shared-slice-known2.given i), (x.extend-if.auto.0 ∙ l.loop.invariant.1.0, rw (e, k.before.is_set.ensures, to_z-of_z (record { sfits = k.channel-kind.type-inv }), k.channel-kind.ensures) t))
+    let g = cond-grown c.is_set-wanted.result (get_or c.args.widths.now c.loop-index.index 0) _ (holding c.loop-index.total c.loop-index.kinds) c.extend_if-total.ensures in
+    let t = sym (chosen_more c.args.second_lfe c.args.widths.now c.args.assignment c.loop-index.index (omega arith) _) ∙ c.loop-index.invariant.1.1 in
+    (omega (arith, c.shared_slice_known-in-loop-index-1.given c.loop-index.index), (c.extend_if-total.auto.kinds ∙ c.loop-index.invariant.1.0, rw (c.extend_if-total.ensures, c.is_set-wanted.ensures, to_z-of_z (record { sfits = c.channel_kind-kind.type_inv }), c.channel_kind-kind.ensures) t))
 
 returns : tie.Need-returns invariant-loop decreases-loop
 unfolding extend
 returns c =
-    let l = c.before in
-    let a = l.before.before.args in
-    rw (← chosen-all) (rw (chosen_none a.second-lfe a.widths.now a.assignment l.loop.index (omega arith)) at l.loop.invariant.1.1)
+    rw (← chosen-all) (rw (chosen_none c.args.second_lfe c.args.widths.now c.args.assignment c.loop-index.index (omega arith)) at c.loop-index.invariant.1.1)
 
-pub extend-chosen-spec : {M : Type 1} → statement M
-extend-chosen-spec =
+pub extend_chosen_spec : {M : Type 1} → statement M
+extend_chosen_spec =
     tie.close
     (tie.spec
     invariant-loop
@@ -58,5 +50,5 @@ extend-chosen-spec =
     (λ c. search rules)
     (λ c. search rules)
     loop-again
-    (λ c. c.before.loop.invariant.1.0)
+    (λ c. c.loop-index.invariant.1.0)
     returns)

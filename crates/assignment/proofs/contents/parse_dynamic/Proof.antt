@@ -12,36 +12,32 @@ use Rattle.assignment.proofs.Filling.{onto-none, map-replicate}
 use Rattle.assignment.proofs.contents.parse_dynamic.Statement.{statement}
 use Rattle.assignment.proofs.contents.parse_dynamic.Tie as tie
 
-coded-lt : (c : tie.After-coded) → c.coded.given.0.0 < 191
-coded-lt c = gives said (extended_lt _ _ _ _ _) c.before.before.read-extended.ensures c.coded.given.1
+coded-lt : (c : tie.In-Value) → c.in-Value.coded < 191
+coded-lt c = gives said (extended_lt _ _ _ _ _) c.read_extended.ensures c.in-Value.is
 
-returns : tie.Need-returns
-returns c = rw (not-true c.before.before.args.present c.if1.true, onto-none)
+returns : tie.Need-returns-then-not-present
+returns c = rw (not-true c.args.present c.if-not-present.true-raw, onto-none)
 
-returns-2 : tie.Need-returns-2
+returns-2 : tie.Need-returns-in-Refused
 unfolding dynamics map_p onto
 returns-2 c =
-    let f = c.before.before.before.before in
-    rw (not-false f.before.before.args.present f.if1.false, ← c.before.before.before.read-extended.ensures, c.before.refusal.given.1)
+    rw (not-false c.args.present c.if-not-present.false-raw, ← c.read_extended.ensures, c.in-Refused.is)
 
-returns-3 : tie.Need-returns-3
+returns-3 : tie.Need-returns-in-Value
 unfolding dynamics map_p onto
 returns-3 c =
-    let x = c.before in
-    let v = x.before.before.before in
-    let f = v.before.before.before in
-    rw (x.extend.ensures, not-false f.before.before.args.present f.if1.false, ← v.before.before.read-extended.ensures, v.coded.given.1, map-replicate)
+    rw (c.extend.ensures, not-false c.args.present c.if-not-present.false-raw, ← c.read_extended.ensures, c.in-Value.is, map-replicate)
 
-pub parse-dynamic-spec : {M : Type 1} → statement M
-parse-dynamic-spec =
+pub parse_dynamic_spec : {M : Type 1} → statement M
+parse_dynamic_spec =
     tie.close
     (tie.spec
     returns
     (λ c κs. search rules)
     (λ c. search rules)
     (λ c. search rules)
-    (λ c. omega (arith, coded-lt c.before.before))
-    (λ c κs. omega (arith, coded-lt c.before.before))
+    (λ c. omega (arith, coded-lt c.before))
+    (λ c κs. omega (arith, coded-lt c.before))
     returns-2
     (λ c. search rules)
     returns-3)

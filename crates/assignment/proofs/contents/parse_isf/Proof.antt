@@ -17,45 +17,38 @@ use Rattle.assignment.proofs.Growth.{isf-count-le}
 use Rattle.assignment.proofs.contents.parse_isf.Statement.{statement}
 use Rattle.assignment.proofs.contents.parse_isf.Tie as tie
 
-returns : tie.Need-returns
-returns c = rw (not-true c.before.before.args.present c.if1.true, onto-none)
+returns : tie.Need-returns-then-not-present
+returns c = rw (not-true c.args.present c.if-not-present.true-raw, onto-none)
 
 -- the format is read, and tested
-at_code : (c : tie.After-code) →
-    let a = c.before.before.before.before.before.args in
-    let format = c.code.given.0.0 in
-    cond a.present isfs (pure []) a.payload.now a.limit.0 a.at.0
-    ≡ (require (leb format 5) (invalid context.intermediate-spatial-format-index a.at.0) >> pure (replicate (get_or isf_counts format 0) isf)) a.payload.now a.limit.0 c.code.given.0.1.0.0
+at_code : (c : tie.In-Value) →
+    cond c.args.present isfs (pure []) c.args.payload.now c.args.limit.0 c.args.at.0
+    ≡ (require (leb c.in-Value.code 5) (invalid context.intermediate-spatial-format-index c.args.at.0) >> pure (replicate (get_or isf_counts c.in-Value.code 0) isf)) c.args.payload.now c.args.limit.0 c.in-Value.next.0
 unfolding isfs ◌>>=◌ here
 at_code c =
-    let f = c.before.before.before in
-    rw (not-false f.before.before.args.present f.if1.false, ← c.before.before.read.ensures, c.code.given.1)
+    rw (not-false c.args.present c.if-not-present.false-raw, ← c.read.ensures, c.in-Value.is)
 
-returns-2 : tie.Need-returns-2
+returns-2 : tie.Need-returns-then-format-ge6
 unfolding ◌>>◌ refuse require onto
 returns-2 c =
-    let v = c.before.before.before in
-    rw (c.invalid.ensures, at_code v, lt-leb v.code.given.0.0 5 (omega arith))
+    rw (c.invalid.ensures, at_code c.before.before, lt-leb c.in-Value.code 5 (omega arith))
 
 extend-requires : tie.Need-extend-requires
 unfolding isf_counts
-extend-requires c κs = omega (arith, isf-count-le c.before.before.before.code.given.0.0)
+extend-requires c κs = omega (arith, isf-count-le c.in-Value.code)
 
-returns-3 : tie.Need-returns-3
+returns-3 : tie.Need-returns-in-Refused
 unfolding isfs ◌>>=◌ here onto
 returns-3 c =
-    let f = c.before.before.before.before in
-    rw (not-false f.before.before.args.present f.if1.false, ← c.before.before.before.read.ensures, c.before.refusal.given.1)
+    rw (not-false c.args.present c.if-not-present.false-raw, ← c.read.ensures, c.in-Refused.is)
 
-returns-4 : tie.Need-returns-4
+returns-4 : tie.Need-returns-else-format-ge6
 unfolding isf_counts ◌>>◌ pure require onto
 returns-4 c =
-    let x = c.before in
-    let v = x.before.before.before.before in
-    rw (x.extend.ensures, at_code v, le-leb v.code.given.0.0 5 (omega arith), map-replicate)
+    rw (c.extend.ensures, at_code c.before.before.before.before.before.before, le-leb c.in-Value.code 5 (omega arith), map-replicate)
 
-pub parse-isf-spec : {M : Type 1} → statement M
-parse-isf-spec =
+pub parse_isf_spec : {M : Type 1} → statement M
+parse_isf_spec =
     tie.close
     (tie.spec
     returns

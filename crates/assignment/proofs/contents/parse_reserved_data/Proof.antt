@@ -5,11 +5,11 @@ use Rattle.bits.specs.Parsed.{pure}
 use Rattle.assignment.proofs.contents.parse_reserved_data.Statement.{statement}
 use Rattle.assignment.proofs.contents.parse_reserved_data.Tie as tie
 
-pub parse-reserved-data-spec : {M : Type 1} → statement M
+pub parse_reserved_data_spec : {M : Type 1} → statement M
 unfolding pure
-parse-reserved-data-spec =
+parse_reserved_data_spec =
     tie.close
     (tie.spec
-    (λ c. rw (not-true c.before.before.args.present c.if1.true))
+    (λ c. rw (not-true c.args.present c.if-not-present.true-raw))
     (λ c κs. search rules)
-    (λ c. rw (not-false c.before.before.before.args.present c.before.if1.false) c.skip-bytes.ensures))
+    (λ c. rw (not-false c.args.present c.if-not-present.false-raw) c.skip_bytes.ensures))

@@ -12,40 +12,34 @@ use Rattle.assignment.proofs.Filling.{counted}
 use Rattle.assignment.proofs.kinds.extend.Statement.{statement}
 use Rattle.assignment.proofs.kinds.extend.Tie as tie
 
-abbrev invariant-loop : tie.invariant-loop
+abbrev invariant-loop : tie.invariant-loop-at
 invariant-loop kinds₀ count kind number end at₀ kinds at =
     (at ≤ end) × ((length kinds ≡ length kinds₀) × (extend (replicate (end - at) (to_z w16 kind)) (holding at kinds) ≡ extend (replicate number (to_z w16 kind)) (holding count kinds₀)))
 
-abbrev decreases-loop : tie.decreases-loop
+abbrev decreases-loop : tie.decreases-loop-at
 decreases-loop kinds₀ count kind number end at₀ kinds at = end - at
 
-loop-holds : tie.Need-loop-init invariant-loop decreases-loop
+loop-holds : tie.Need-loop-at-init invariant-loop decreases-loop
 loop-holds c =
-    let a = c.args in
-    let k : (a.count + a.number) - a.count ≡ a.number = omega arith in
+    let k : (c.args.count + c.args.number) - c.args.count ≡ c.args.number = omega arith in
     (omega arith, (refl, rw k))
 
-loop-less : tie.Need-loop-smaller invariant-loop decreases-loop
-loop-less c = omega (arith, counted c.before.push.ensures)
+loop-less : tie.Need-loop-at-smaller invariant-loop decreases-loop
+loop-less c = omega (arith, counted c.push-at.ensures)
 
-loop-again : tie.Need-loop-preserved invariant-loop decreases-loop
+loop-again : tie.Need-loop-at-preserved invariant-loop decreases-loop
 unfolding extend
 loop-again c =
-    let p = c.before in
-    let l = p.before.before.before in
-    let a = l.before.args in
-    let k : (a.count + a.number) - l.loop.at ≡ suc ((a.count + a.number) - p.push.result) = omega (arith, counted p.push.ensures) in
-    (omega (arith, counted p.push.ensures), (p.push.auto.0 ∙ l.loop.invariant.1.0, rw p.push.ensures (rw k at l.loop.invariant.1.1)))
+    let k : (c.args.count + c.args.number) - c.loop-at.at ≡ suc ((c.args.count + c.args.number) - c.push-at.result) = omega (arith, counted c.push-at.ensures) in
+    (omega (arith, counted c.push-at.ensures), (c.push-at.auto.kinds ∙ c.loop-at.invariant.1.0, rw c.push-at.ensures (rw k at c.loop-at.invariant.1.1)))
 
 returns : tie.Need-returns invariant-loop decreases-loop
 unfolding extend
 returns c =
-    let l = c.before in
-    let a = l.before.args in
-    let k : (a.count + a.number) - l.loop.at ≡ 0 = omega arith in
-    rw (k, to_z-of_z l.before.ranges.kind) at l.loop.invariant.1.1
+    let k : (c.args.count + c.args.number) - c.loop-at.at ≡ 0 = omega arith in
+    rw (k, to_z-of_z c.ranges.kind) at c.loop-at.invariant.1.1
 
-pub extend-spec : {M : Type 1} → statement M
-extend-spec =
+pub extend_spec : {M : Type 1} → statement M
+extend_spec =
     tie.close
-    (tie.spec invariant-loop decreases-loop (λ c. search rules) loop-holds (λ c κs. search rules) loop-less loop-again (λ c. c.before.loop.invariant.1.0) returns)
+    (tie.spec invariant-loop decreases-loop (λ c. search rules) loop-holds (λ c κs. search rules) loop-less loop-again (λ c. c.loop-at.invariant.1.0) returns)

@@ -16,53 +16,48 @@ at c m p = m c.args.container.now c.args.limit.0 p
 abbrev whole : tie.Start → Parsed (Unit {0})
 whole c = at c (after_offset c.args.offset) c.args.at.0
 
-after-duration : (c : tie.After-duration) →
-    let a = c.before.before.before.before in
-    whole a ≡ at a (flagged (passed (variable 2)) >> (flagged (pass 8) >> (flag >>= λ d. if_set (not d) (handling a.args.offset)))) c.duration.given.0.0.0
+after-duration : (c : tie.In-To) →
+    whole c.before.before.before ≡ at c.before.before.before (flagged (passed (variable 2)) >> (flagged (pass 8) >> (flag >>= λ d. if_set (not d) (handling c.args.offset)))) c.in-To.at.0
 unfolding after_offset ◌>>◌
-after-duration c = rw (← c.before.before.skip-flagged-variable.ensures, c.duration.given.1)
+after-duration c = rw (← c.skip_flagged_variable-duration.ensures, c.in-To.is)
 
-after-group : (c : tie.After-group) →
-    let a = c.before.before.before.before.before.before.before.before in
-    whole a ≡ at a (flagged (pass 8) >> (flag >>= λ d. if_set (not d) (handling a.args.offset))) c.group.given.0.0.0
+after-group : (c : tie.In-To-group) →
+    whole c.before.before.before.before.before ≡ at c.before.before.before.before.before (flagged (pass 8) >> (flag >>= λ d. if_set (not d) (handling c.args.offset))) c.in-To-group.at.0
 unfolding ◌>>◌
-after-group c = rw (after-duration c.before.before.before.before, ← c.before.before.skip-flagged-variable2.ensures, c.group.given.1)
+after-group c = rw (after-duration c.before.before, ← c.skip_flagged_variable-group.ensures, c.in-To-group.is)
 
-after-codec : (c : tie.After-read-flag) →
-    let a = c.before.before.before.before.before.before.before.before.before.before.before.before.before.before in
-    whole a ≡ and_then (said_flag c.read-flag.result) (λ d q. at a (if_set (not d) (handling a.args.offset)) q)
+after-codec : (c : tie.After-read_flag) →
+    whole c.before.before.before.before.before.before.before.before ≡ and_then (said_flag c.read_flag.result) (λ d q. at c.before.before.before.before.before.before.before.before (if_set (not d) (handling c.args.offset)) q)
 unfolding ◌>>=◌ ◌>>◌
 after-codec c =
-    let k = c.before.before in
-    rw (c.read-flag.ensures, after-group k.before.before.before.before, ← k.before.before.skip-flagged.ensures, k.codec.given.1)
+    rw (c.read_flag.ensures, after-group c.before.before.before, ← c.skip_flagged-codec.ensures, c.in-To-codec.is)
 
-returns : tie.Need-returns
+returns : tie.Need-returns-in_default
 unfolding after_offset ◌>>◌
-returns c = rw (← c.before.before.skip-flagged-variable.ensures, c.enum_told.given.1)
+returns c = rw (← c.skip_flagged_variable-duration.ensures, c.in_default.is)
 
-returns-2 : tie.Need-returns-2
+returns-2 : tie.Need-returns-in_default-group
 unfolding ◌>>◌
-returns-2 c = rw (after-duration c.before.before.before.before, ← c.before.before.skip-flagged-variable2.ensures, c.enum-told2.given.1)
+returns-2 c = rw (after-duration c.before.before, ← c.skip_flagged_variable-group.ensures, c.in_default-group.is)
 
-returns-3 : tie.Need-returns-3
+returns-3 : tie.Need-returns-in_default-codec
 unfolding ◌>>◌
-returns-3 c = rw (after-group c.before.before.before.before, ← c.before.before.skip-flagged.ensures, c.enum-told3.given.1)
+returns-3 c = rw (after-group c.before.before, ← c.skip_flagged-codec.ensures, c.in_default-codec.is)
 
-returns-4 : tie.Need-returns-4
+returns-4 : tie.Need-returns-then-discard_unknown
 unfolding if_set pure
-returns-4 c = rw (after-codec c.before.before.before.before, c.before.before.discard-unknown.given.1, c.if1.true)
+returns-4 c = rw (after-codec c.before.before, c.in-Is.is, c.if-discard_unknown.true)
 
-returns-5 : tie.Need-returns-5
-returns-5 c = rw (after-codec c.before.before.before, c.before.refusal.given.1)
+returns-5 : tie.Need-returns-in-Refused
+returns-5 c = rw (after-codec c.before, c.in-Refused.is)
 
-returns-6 : tie.Need-returns-6
+returns-6 : tie.Need-returns-else-discard_unknown
 unfolding if_set
 returns-6 c =
-    let f = c.before.before.before in
-    rw (after-codec f.before.before, f.discard-unknown.given.1, c.before.if1.false) c.skip-handling.ensures
+    rw (after-codec c.before.before.before, c.in-Is.is, c.if-discard_unknown.false) c.skip_handling.ensures
 
-pub skip-after-offset-spec : {M : Type 1} → statement M
-skip-after-offset-spec =
+pub skip_after_offset_spec : {M : Type 1} → statement M
+skip_after_offset_spec =
     tie.close
     (tie.spec
     (λ c κs. search rules)

@@ -5,27 +5,22 @@ use Rattle.standard.specs.Container.{config}
 use Rattle.emdf.proofs.config.skip_config.Statement.{statement}
 use Rattle.emdf.proofs.config.skip_config.Tie as tie
 
-returns : tie.Need-returns
+returns : tie.Need-returns-in-Refused
 unfolding config ◌>>=◌
-returns c = rw (← c.before.before.before.read-flag.ensures, c.before.refusal.given.1)
+returns c = rw (← c.read_flag.ensures, c.in-Refused.is)
 
-returns-2 : tie.Need-returns-2
+returns-2 : tie.Need-returns-in-Refused-skip_if
 unfolding config ◌>>=◌ ◌>>◌
 returns-2 c =
-    let i = c.before.before.before in
-    let f = i.before.before in
-    rw (← f.before.before.read-flag.ensures, f.offset.given.1, ← (i.skip-if.ensures _), c.before.refusal2.given.1)
+    rw (← c.read_flag.ensures, c.in-Is.is, ← (c.skip_if.ensures _), c.in-Refused-skip_if.is)
 
-returns-3 : tie.Need-returns-3
+returns-3 : tie.Need-returns-in-To
 unfolding config ◌>>=◌ ◌>>◌
 returns-3 c =
-    let n = c.before.before in
-    let i = n.before.before in
-    let f = i.before.before in
-    rw (← f.before.before.read-flag.ensures, f.offset.given.1, ← (i.skip-if.ensures _), n.next.given.1) c.skip-after-offset.ensures
+    rw (← c.read_flag.ensures, c.in-Is.is, ← (c.skip_if.ensures _), c.in-To.is) c.skip_after_offset.ensures
 
-pub skip-config-spec : {M : Type 1} → statement M
-skip-config-spec =
+pub skip_config_spec : {M : Type 1} → statement M
+skip_config_spec =
     tie.close
     (tie.spec
     (λ c κs. search rules)

@@ -5,18 +5,17 @@ use Rattle.standard.specs.Container.{flagged}
 use Rattle.emdf.proofs.config.skip_flagged.Statement.{statement}
 use Rattle.emdf.proofs.config.skip_flagged.Tie as tie
 
-returns : tie.Need-returns
+returns : tie.Need-returns-in-Refused
 unfolding flagged ◌>>=◌
-returns c = rw (← c.before.before.before.read-flag.ensures, c.before.refusal.given.1)
+returns c = rw (← c.read_flag.ensures, c.in-Refused.is)
 
-returns-2 : tie.Need-returns-2
+returns-2 : tie.Need-returns-in-Is
 unfolding flagged ◌>>=◌
 returns-2 c =
-    let f = c.before.before in
-    rw (← f.before.before.read-flag.ensures, f.present.given.1) (c.skip-if.ensures _)
+    rw (← c.read_flag.ensures, c.in-Is.is) (c.skip_if.ensures _)
 
-pub skip-flagged-spec : {M : Type 1} → statement M
-skip-flagged-spec =
+pub skip_flagged_spec : {M : Type 1} → statement M
+skip_flagged_spec =
     tie.close
     (tie.spec
     (λ c κs. search rules)

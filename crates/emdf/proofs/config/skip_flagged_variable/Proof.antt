@@ -9,33 +9,30 @@ use Rattle.emdf.proofs.Nearness.{near-passed}
 use Rattle.emdf.proofs.config.skip_flagged_variable.Statement.{statement}
 use Rattle.emdf.proofs.config.skip_flagged_variable.Tie as tie
 
-returns : tie.Need-returns
+returns : tie.Need-returns-then-not-present
 unfolding flagged if_set ◌>>=◌ pure
 returns c =
-    let f = c.before.before in
-    rw (← f.before.before.read-flag.ensures, f.present.given.1, not-true f.present.given.0.0 c.if1.true)
+    rw (← c.read_flag.ensures, c.in-Is.is, not-true c.in-Is.present c.if-not-present.true-raw)
 
-returns-2 : tie.Need-returns-2
+returns-2 : tie.Need-returns-in-Refused
 unfolding flagged ◌>>=◌
-returns-2 c = rw (← c.before.before.before.read-flag.ensures, c.before.refusal.given.1)
+returns-2 c = rw (← c.read_flag.ensures, c.in-Refused.is)
 
 -- the flag is set
-number : (c : tie.After-read-variable-bits) →
-    let a = c.before.before.before.before.before.before.before.args in
-    flagged (passed (variable a.width)) a.container.now a.limit.0 a.at.0 ≡ map_parsed (λ n. tt {0}) (said c.read-variable-bits.result)
+number : (c : tie.After-read_variable_bits) →
+    flagged (passed (variable c.args.width)) c.args.container.now c.args.limit.0 c.args.at.0 ≡ map_parsed (λ n. tt {0}) (said c.read_variable_bits.result)
 unfolding flagged if_set passed ◌>>=◌ map_p
 number c =
-    let f = c.before.before.before in
-    rw (c.read-variable-bits.ensures, ← near-passed, ← f.before.before.read-flag.ensures, f.present.given.1, not-false f.present.given.0.0 c.before.if1.false)
+    rw (c.read_variable_bits.ensures, ← near-passed, ← c.read_flag.ensures, c.in-Is.is, not-false c.in-Is.present c.if-not-present.false-raw)
 
-returns-3 : tie.Need-returns-3
-returns-3 c = rw (number c.before.before.before, c.before.refusal2.given.1)
+returns-3 : tie.Need-returns-in-Refused-read_variable_bits
+returns-3 c = rw (number c.before, c.in-Refused-read_variable_bits.is)
 
-returns-4 : tie.Need-returns-4
-returns-4 c = rw (number c.before.before.before, c.before.end.given.1)
+returns-4 : tie.Need-returns-in-Value
+returns-4 c = rw (number c.before, c.in-Value.is)
 
-pub skip-flagged-variable-spec : {M : Type 1} → statement M
-skip-flagged-variable-spec =
+pub skip_flagged_variable_spec : {M : Type 1} → statement M
+skip_flagged_variable_spec =
     tie.close
     (tie.spec
     (λ c κs. search rules)

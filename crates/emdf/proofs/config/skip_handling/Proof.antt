@@ -4,13 +4,13 @@ use Rattle.standard.specs.Container.{handling}
 use Rattle.emdf.proofs.config.skip_handling.Statement.{statement}
 use Rattle.emdf.proofs.config.skip_handling.Tie as tie
 
-returns : tie.Need-returns
+returns : tie.Need-returns-then-offset
 unfolding handling
-returns c = rw c.before.if1.true (c.skip.ensures _)
+returns c = rw c.if-offset.true (c.skip.ensures _)
 
-returns-2 : tie.Need-returns-2
+returns-2 : tie.Need-returns
 unfolding handling
-returns-2 c = rw c.before.if1.false c.skip-flagged.ensures
+returns-2 c = rw c.if-offset.false c.skip_flagged.ensures
 
-pub skip-handling-spec : {M : Type 1} → statement M
-skip-handling-spec = tie.close (tie.spec (λ c κs. search rules) returns (λ c κs. search rules) returns-2)
+pub skip_handling_spec : {M : Type 1} → statement M
+skip_handling_spec = tie.close (tie.spec (λ c κs. search rules) returns (λ c κs. search rules) returns-2)

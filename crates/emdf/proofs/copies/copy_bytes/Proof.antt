@@ -13,20 +13,18 @@ use Rattle.emdf.proofs.copies.copy_bytes.Tie as tie
 abbrev from : tie.Start → ℕ → List ℕ
 from c p = over (bytes_from c.args.container.now p c.args.n) c.args.buffer.now
 
-returns : tie.Need-returns
+returns : tie.Need-returns-then-shift-eq0
 returns c =
-    let s = c.before.before.before.before.before.before.before in
-    let place : s.args.from / 8 * 8 ≡ s.args.from = omega arith in
-    c.before.before.copy-whole.ensures ∙ ap (from s) place
+    let place : c.args.from / 8 * 8 ≡ c.args.from = omega arith in
+    c.copy_whole.ensures ∙ ap (from c.before.before.before.before.before.before.before) place
 
-returns-2 : tie.Need-returns-2
+returns-2 : tie.Need-returns-else-shift-eq0
 returns-2 c =
-    let s = c.before.before.before.before.before.before.before in
-    let place : s.args.from / 8 * 8 + s.args.from % 8 ≡ s.args.from = omega arith in
-    c.before.before.copy-shifted.ensures ∙ ap (from s) place
+    let place : c.args.from / 8 * 8 + c.args.from % 8 ≡ c.args.from = omega arith in
+    c.copy_shifted.ensures ∙ ap (from c.before.before.before.before.before.before.before) place
 
-pub copy-bytes-spec : {M : Type 1} → statement M
-copy-bytes-spec =
+pub copy_bytes_spec : {M : Type 1} → statement M
+copy_bytes_spec =
     tie.close
     (tie.spec
     (λ c κs. search rules)

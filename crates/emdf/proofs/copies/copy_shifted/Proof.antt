@@ -10,31 +10,27 @@ use Rattle.emdf.proofs.Copying.{Copied, begin, turn, copied}
 use Rattle.emdf.proofs.copies.copy_shifted.Statement.{statement}
 use Rattle.emdf.proofs.copies.copy_shifted.Tie as tie
 
-abbrev invariant-loop : tie.invariant-loop
+abbrev invariant-loop : tie.invariant-loop-i
 invariant-loop container first shift buffer₀ n high₀ i₀ buffer high i =
     Copied container (first * 8 + shift) buffer₀ n i buffer × (high ≡ get_or container (first + i) 0)
 
-abbrev decreases-loop : tie.decreases-loop
+abbrev decreases-loop : tie.decreases-loop-i
 decreases-loop container first shift buffer₀ n high₀ i₀ buffer high i = n - i
 
-loop-holds : tie.Need-loop-init invariant-loop decreases-loop
+loop-holds : tie.Need-loop-i-init invariant-loop decreases-loop
 loop-holds c = (begin _ _ _ _, rw add-zero)
 
-loop-again : tie.Need-loop-preserved invariant-loop decreases-loop
+loop-again : tie.Need-loop-i-preserved invariant-loop decreases-loop
 loop-again c =
-    let l = c.before.before.before in
-    let a = l.before.before.before.before.args in
-    let known = l.before.before.before.shared-slice-known.given in
-    let i = l.loop.i in
-    let place : (a.first + i) * 8 + a.shift ≡ a.first * 8 + a.shift + i * 8 = omega arith in
-    let next : a.first + i + 1 ≡ a.first + (i + 1) = omega arith in
-    let byte = byte-of-pair a.container.now (a.first + i) (omega (arith, known (a.first + i + 1))) a.shift (omega arith) in (
-      turn (rw l.loop.invariant.1 at c.joined.ensures ∙ rw place at byte) c.before.before.loop-test.true (omega arith) l.loop.invariant.0,
-      ap (λ k. get_or a.container.now k 0) next,
+    let place : (c.args.first + c.loop-i.i) * 8 + c.args.shift ≡ c.args.first * 8 + c.args.shift + c.loop-i.i * 8 = omega arith in
+    let next : c.args.first + c.loop-i.i + 1 ≡ c.args.first + (c.loop-i.i + 1) = omega arith in
+    let byte = byte-of-pair c.args.container.now (c.args.first + c.loop-i.i) (omega (arith, c.shared_slice_known-1.given (c.args.first + c.loop-i.i + 1))) c.args.shift (omega arith) in (
+      turn (rw c.loop-i.invariant.1 at c.joined.ensures ∙ rw place at byte) c.loop-i-test.true (omega arith) c.loop-i.invariant.0,
+      ap (λ k. get_or c.args.container.now k 0) next,
     )
 
-pub copy-shifted-spec : {M : Type 1} → statement M
-copy-shifted-spec =
+pub copy_shifted_spec : {M : Type 1} → statement M
+copy_shifted_spec =
     tie.close
     (tie.spec
     invariant-loop
@@ -49,5 +45,5 @@ copy-shifted-spec =
     (λ c. omega arith)
     (λ c. omega arith)
     loop-again
-    (λ c. c.before.loop.invariant.0.long)
-    (λ c. copied c.loop-test.false c.before.loop.invariant.0))
+    (λ c. c.loop-i.invariant.0.long)
+    (λ c. copied c.loop-i-test.false c.loop-i.invariant.0))

@@ -5,13 +5,13 @@ use Rattle.standard.specs.Container.{or_ends_early, bits}
 use Rattle.emdf.proofs.fields.read.Statement.{statement}
 use Rattle.emdf.proofs.fields.read.Tie as tie
 
-returns : tie.Need-returns
+returns : tie.Need-returns-in-Value
 unfolding bits or_ends_early refused_as
-returns c = rw (← c.before.before.before.read.ensures, c.before.value.given.1)
+returns c = rw (← c.read.ensures, c.in-Value.is)
 
-returns-2 : tie.Need-returns-2
+returns-2 : tie.Need-returns-in-Refused
 unfolding bits or_ends_early refused_as
-returns-2 c = rw (c.alone.ensures, ← c.before.before.before.read.ensures, c.before.enum_told.given.1)
+returns-2 c = rw (c.alone.ensures, ← c.read.ensures, c.in-Refused.is)
 
 pub read_spec : {M : Type 1} → statement M
 read_spec =

@@ -5,16 +5,16 @@ use Rattle.standard.specs.Container.{or_ends_early, pass}
 use Rattle.emdf.proofs.fields.skip.Statement.{statement}
 use Rattle.emdf.proofs.fields.skip.Tie as tie
 
-returns : tie.Need-returns
+returns : tie.Need-returns-in-To
 unfolding pass or_ends_early refused_as
-returns c = λ s. rw (← (c.before.before.before.skip.ensures s), c.before.next.given.1)
+returns c = λ s. rw (← (c.skip.ensures s), c.in-To.is)
 
-returns-2 : tie.Need-returns-2
+returns-2 : tie.Need-returns-in-Refused
 unfolding pass or_ends_early refused_as
-returns-2 c = λ s. rw (c.alone.ensures, ← (c.before.before.before.skip.ensures s), c.before.enum_told.given.1)
+returns-2 c = λ s. rw (c.alone.ensures, ← (c.skip.ensures s), c.in-Refused.is)
 
-pub skip-spec : {M : Type 1} → statement M
-skip-spec =
+pub skip_spec : {M : Type 1} → statement M
+skip_spec =
     tie.close
     (tie.spec
     (λ c κs. search rules)

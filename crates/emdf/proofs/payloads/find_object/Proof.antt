@@ -14,38 +14,33 @@ use Rattle.emdf.proofs.payloads.find_object.Tie as tie
 abbrev whole : tie.Start → Parsed ℕ
 whole c = near (opening c.args.container.now c.args.limit.0 0)
 
-at-version : (c : tie.After-read-extended) →
-    let a = c.before.before in
-    whole a ≡ and_then (said c.read-extended.result) (after_version a.args.container.now a.args.limit.0)
-at-version c = rw (near-opening, c.read-extended.ensures)
+at-version : (c : tie.After-read_extended) →
+    whole c.before.before ≡ and_then (said c.read_extended.result) (after_version c.args.container.now c.args.limit.0)
+at-version c = rw (near-opening, c.read_extended.ensures)
 
-at_key : (c : tie.After-read-extended2) →
-    let a = c.before.before.before.before.before.before.before in
-    whole a ≡ and_then (map_parsed (λ n. tt {0}) (said c.read-extended2.result)) (λ u q. near_first a.args.container.now a.args.limit.0 q)
+at_key : (c : tie.After-read_extended-in-Value) →
+    whole c.before.before.before.before.before ≡ and_then (map_parsed (λ n. tt {0}) (said c.read_extended-in-Value.result)) (λ u q. near_first c.args.container.now c.args.limit.0 q)
 unfolding require pure
 at_key c =
-    let v = c.before.before.before in
-    rw (c.read-extended2.ensures, at-version v.before.before, v.version.given.1, eq-eqb v.version.given.0.0 0 c.before.if1.false)
+    rw (c.read_extended-in-Value.ensures, at-version c.before.before.before, c.in-Value.is, eq-eqb c.in-Value.version 0 c.if-version-ne0.false)
 
-returns : tie.Need-returns
+returns : tie.Need-returns-then-version-ne0
 unfolding require refuse
 returns c =
-    let v = c.before.before.before in
-    rw (c.alone.ensures, at-version v.before.before, v.version.given.1, ne_eqb v.version.given.0.0 0 c.before.if1.true)
+    rw (c.alone.ensures, at-version c.before.before.before, c.in-Value.is, ne_eqb c.in-Value.version 0 c.if-version-ne0.true)
 
-returns-2 : tie.Need-returns-2
-returns-2 c = rw (at-version c.before.before.before, c.before.refusal.given.1)
+returns-2 : tie.Need-returns-in-Refused
+returns-2 c = rw (at-version c.before, c.in-Refused.is)
 
-returns-3 : tie.Need-returns-3
-returns-3 c = rw (at_key c.before.before.before, c.before.refusal2.given.1)
+returns-3 : tie.Need-returns-in-Refused-read_extended
+returns-3 c = rw (at_key c.before, c.in-Refused-read_extended.is)
 
-returns-4 : tie.Need-returns-4
+returns-4 : tie.Need-returns-in-Value-read_extended
 returns-4 c =
-    let n = c.before.before in
-    rw (at_key n.before.before, n.next.given.1) c.first-object.ensures
+    rw (at_key c.before.before, c.in-Value-read_extended.is) c.first_object.ensures
 
-pub find-object-spec : {M : Type 1} → statement M
-find-object-spec =
+pub find_object_spec : {M : Type 1} → statement M
+find_object_spec =
     tie.close
     (tie.spec
     (λ c κs. search rules)

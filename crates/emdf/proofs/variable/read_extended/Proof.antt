@@ -15,45 +15,41 @@ use Rattle.emdf.proofs.Nearness.{min-small, near_le, near-added}
 use Rattle.emdf.proofs.variable.read_extended.Statement.{statement}
 use Rattle.emdf.proofs.variable.read_extended.Tie as tie
 
-small : (c : tie.After-value) → c.value.given.0.0 ≤ large
+small : (c : tie.In-Value) → c.in-Value.value ≤ large
 small c =
-    let p : 2 ^ c.before.before.before.before.args.width ≤ 2048 = pow_mono {j = 11} (omega arith) in
-    omega (arith, gives said (bits-lt _) c.before.before.read.ensures c.value.given.1)
+    let p : 2 ^ c.args.width ≤ 2048 = pow_mono {j = 11} (omega arith) in
+    omega (arith, gives said (bits-lt _) c.read.ensures c.in-Value.is)
 
-span_pos : (c : tie.After-two-to) → 1 ≤ c.two_to.result
-span_pos c = rw c.two_to.ensures (pow_pos c.before.before.before.before.before.before.args.width)
+span_pos : (c : tie.After-two_to) → 1 ≤ c.two_to.result
+span_pos c = rw c.two_to.ensures (pow_pos c.args.width)
 
-returns : tie.Need-returns
+returns : tie.Need-returns-then-value-two_to
 unfolding extended ◌>>=◌ pure
 returns c =
-    let v = c.before.before.before in
-    rw (← v.before.before.read.ensures, v.value.given.1, ne_eqb v.value.given.0.0 (2 ^ v.before.before.before.before.args.width - 1) (rw c.before.two_to.ensures at c.if1.true), min-small _ (small v))
+    rw (← c.read.ensures, c.in-Value.is, ne_eqb c.in-Value.value (2 ^ c.args.width - 1) (rw c.two_to.ensures at c.if-value-two_to.true), min-small _ (small c.before.before))
 
-returns-2 : tie.Need-returns-2
+returns-2 : tie.Need-returns-in-Refused
 unfolding extended ◌>>=◌
-returns-2 c = rw (← c.before.before.before.read.ensures, c.before.refusal.given.1)
+returns-2 c = rw (← c.read.ensures, c.in-Refused.is)
 
 -- the largest value
-added : (c : tie.After-read-variable-bits) →
-    let v = c.before.before.before.before in
-    let a = v.before.before.before.before.args in
-    near (extended a.width a.container.now a.limit.0 a.at.0) ≡ near (map_parsed (λ n. v.value.given.0.0 + n) (said c.read-variable-bits.result))
+added : (c : tie.After-read_variable_bits) →
+    near (extended c.args.width c.args.container.now c.args.limit.0 c.args.at.0) ≡ near (map_parsed (λ n. c.in-Value.value + n) (said c.read_variable_bits.result))
 unfolding extended ◌>>=◌ map_p
 added c =
-    let v = c.before.before.before.before in
-    rw (c.read-variable-bits.ensures, ← v.before.before.read.ensures, v.value.given.1, eq-eqb v.value.given.0.0 (2 ^ v.before.before.before.before.args.width - 1) (rw c.before.before.two_to.ensures at c.before.if1.false), near-added v.value.given.0.0)
+    rw (c.read_variable_bits.ensures, ← c.read.ensures, c.in-Value.is, eq-eqb c.in-Value.value (2 ^ c.args.width - 1) (rw c.two_to.ensures at c.if-value-two_to.false), near-added c.in-Value.value (variable c.args.width c.args.container.now c.args.limit.0 c.in-Value.next.0))
 
-returns-3 : tie.Need-returns-3
-returns-3 c = rw (added c.before.before.before, c.before.refusal2.given.1)
+returns-3 : tie.Need-returns-in-Refused-read_variable_bits
+returns-3 c = rw (added c.before, c.in-Refused-read_variable_bits.is)
 
-returns-4 : tie.Need-returns-4
-returns-4 c = rw (added c.before.before.before.before, c.before.before.more.given.1, c.saturated.ensures)
+returns-4 : tie.Need-returns-in-Value-read_variable_bits
+returns-4 c = rw (added c.before.before, c.in-Value-read_variable_bits.is, c.saturated.ensures)
 
-more-small : (c : tie.After-more) → c.more.given.0.0 ≤ large
-more-small c = gives said (near_le (variable _)) c.before.before.read-variable-bits.ensures c.more.given.1
+more-small : (c : tie.In-Value-read_variable_bits) → c.in-Value-read_variable_bits.more ≤ large
+more-small c = gives said (near_le (variable _)) c.read_variable_bits.ensures c.in-Value-read_variable_bits.is
 
-pub read-extended-spec : {M : Type 1} → statement M
-read-extended-spec =
+pub read_extended_spec : {M : Type 1} → statement M
+read_extended_spec =
     tie.close
     (tie.spec
     (λ c κs. search rules)
@@ -65,7 +61,7 @@ read-extended-spec =
     (λ c κs. search rules)
     (λ c. search rules)
     (λ c. search rules)
-    (λ c. omega (arith, more-small c.before, small c.before.before.before.before.before.before.before))
+    (λ c. omega (arith, more-small c, small c.before.before.before.before))
     (λ c κs. search rules)
     returns-2
     returns-3

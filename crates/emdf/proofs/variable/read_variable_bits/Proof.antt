@@ -18,103 +18,89 @@ use Rattle.emdf.proofs.variable.read_variable_bits.Statement.{statement}
 use Rattle.emdf.proofs.variable.read_variable_bits.Tie as tie
 
 -- wherever the number began
-abbrev invariant-loop : tie.invariant-loop
+abbrev invariant-loop : tie.invariant-loop-refusal
 invariant-loop container limit width value₀ place₀ span value place =
     (value ≤ large)
     × ((first : ℕ) → near_rest width first container limit.0 value place.0 ≡ near_rest width first container limit.0 value₀ place₀.0)
 
-abbrev decreases-loop : tie.decreases-loop
+abbrev decreases-loop : tie.decreases-loop-refusal
 decreases-loop container limit width value₀ place₀ span value place = limit.0 - place.0
 
 abbrev left : tie.Start invariant-loop decreases-loop → ℕ → ℕ → ℕ → Parsed ℕ
 left c first v p = near_rest c.args.width first c.args.container.now c.args.limit.0 v p
 
 -- behind the first group
-abbrev whole : tie.After-head invariant-loop decreases-loop → ℕ → Parsed ℕ
-whole c first = left c.before.before.before.before first c.head.given.0.0 c.head.given.0.1.0.0
+abbrev whole : tie.In-Value invariant-loop decreases-loop → ℕ → Parsed ℕ
+whole c first = left c.before.before.before first c.in-Value.value c.in-Value.place.0
 
-start : (c : tie.After-head invariant-loop decreases-loop) →
-    let a = c.before.before.before.before.args in
-    near (variable a.width a.container.now a.limit.0 a.at.0) ≡ whole c a.at.0
-start c = rw (near-variable, ← c.before.before.read.ensures, c.head.given.1)
+start : (c : tie.In-Value invariant-loop decreases-loop) →
+    near (variable c.args.width c.args.container.now c.args.limit.0 c.args.at.0) ≡ whole c c.args.at.0
+start c = rw (near-variable, ← c.read-head.ensures, c.in-Value.is)
 
-abbrev head : tie.At-loop invariant-loop decreases-loop → tie.After-head invariant-loop decreases-loop
-head l = l.before.before.before
+abbrev head : tie.At-loop-refusal invariant-loop decreases-loop → tie.In-Value invariant-loop decreases-loop
+head l = l.before.before
 
-abbrev entry : tie.At-loop invariant-loop decreases-loop → tie.Start invariant-loop decreases-loop
-entry l = (head l).before.before.before.before
+abbrev entry : tie.At-loop-refusal invariant-loop decreases-loop → tie.Start invariant-loop decreases-loop
+entry l = (head l).before.before.before
 
-abbrev then : tie.At-loop invariant-loop decreases-loop → ℕ → ℕ → ℕ → Parsed ℕ
+abbrev then : tie.At-loop-refusal invariant-loop decreases-loop → ℕ → ℕ → ℕ → Parsed ℕ
 then l first v p = left (entry l) first (min v large) p
 
-at_flag : (c : tie.After-read-flag invariant-loop decreases-loop) (first : ℕ) →
+at_flag : (c : tie.After-read_flag invariant-loop decreases-loop) (first : ℕ) →
     let a = (entry c.before).args in
     whole (head c.before) first
-    ≡ and_then (said_flag c.read-flag.result) (after_flag a.width first a.container.now a.limit.0 (then c.before first) c.before.loop.value)
-at_flag c first = rw (c.read-flag.ensures, ← (c.before.loop.invariant.1 first)) (near-group _ _ _ _ _ _ c.before.loop.invariant.0)
+    ≡ and_then (said_flag c.read_flag.result) (after_flag a.width first a.container.now a.limit.0 (then c.before first) c.loop-refusal.value)
+at_flag c first = rw (c.read_flag.ensures, ← (c.loop-refusal.invariant.1 first)) (near-group _ _ _ _ _ _ c.loop-refusal.invariant.0)
 
-at_read : (c : tie.After-read2 invariant-loop decreases-loop) (first : ℕ) →
-    let l = c.before.before.before.before.before.before in
-    whole (head l) first ≡ and_then (said c.read2.result) (λ g q. then l first (grown (entry l).args.width l.loop.value g) q)
+at_read : (c : tie.After-read invariant-loop decreases-loop) (first : ℕ) →
+    let l = c.before.before.before.before in
+    whole (head l) first ≡ and_then (said c.read.result) (λ g q. then l first (grown (entry l).args.width c.loop-refusal.value g) q)
 at_read c first =
-    let m = c.before.before.before.more.given in
-    rw (c.read2.ensures, at_flag c.before.before.before.before.before first, m.1, not-false m.0.0 c.before.if1.false)
+    rw (c.read.ensures, at_flag c.before.before.before first, c.in-Is.is, not-false c.in-Is.more c.if-not-more.false-raw)
 
-first_small : (c : tie.After-head invariant-loop decreases-loop) → c.head.given.0.0 ≤ large
+first_small : (c : tie.In-Value invariant-loop decreases-loop) → c.in-Value.value ≤ large
 first_small c =
-    let a = c.before.before.before.before.args in
-    let p : 2 ^ a.width ≤ 2048 = pow_mono {j = 11} (omega arith) in
-    omega (arith, gives said (bits-lt _) c.before.before.read.ensures c.head.given.1)
+    let p : 2 ^ c.args.width ≤ 2048 = pow_mono {j = 11} (omega arith) in
+    omega (arith, gives said (bits-lt _) c.read-head.ensures c.in-Value.is)
 
 -- the value with a group more
-more-fits : (c : tie.After-group invariant-loop decreases-loop) →
-    let l = c.before.before.before.before.before.before.before.before in
-    let span = l.before.two_to.result in
-    l.loop.value * span + span + c.group.given.0.0 < 2 ^ 32
+more-fits : (c : tie.In-Value-read invariant-loop decreases-loop) →
+    c.loop-refusal.value * c.two_to-span.result + c.two_to-span.result + c.in-Value-read.group < 2 ^ 32
 more-fits c =
-    let l = c.before.before.before.before.before.before.before.before in
-    let g = gives said (bits-lt _) c.before.before.read2.ensures c.group.given.1 in
-    let p : 2 ^ (entry l).args.width ≤ 2048 = pow_mono {j = 11} (omega arith) in
-    rw l.before.two_to.ensures (omega (arith, mul-le-mul_left l.loop.value p, l.loop.invariant.0, g))
+    let g = gives said (bits-lt _) c.read.ensures c.in-Value-read.is in
+    let p : 2 ^ (entry c.before.before.before.before.before).args.width ≤ 2048 = pow_mono {j = 11} (omega arith) in
+    rw c.two_to-span.ensures (omega (arith, mul-le-mul_left c.loop-refusal.value p, c.loop-refusal.invariant.0, g))
 
-returns : tie.Need-returns invariant-loop decreases-loop
-returns c = rw (near-variable, ← c.before.before.read.ensures, c.enum_told.given.1)
+returns : tie.Need-returns-in_default invariant-loop decreases-loop
+returns c = rw (near-variable, ← c.read-head.ensures, c.in_default.is)
 
-loop-holds : tie.Need-loop-init invariant-loop decreases-loop
-loop-holds c = (first_small c.before.before, λ first. refl)
+loop-holds : tie.Need-loop-refusal-init invariant-loop decreases-loop
+loop-holds c = (first_small c.before, λ first. refl)
 
-returns-2 : tie.Need-returns-2 invariant-loop decreases-loop
+returns-2 : tie.Need-returns-in-Refused invariant-loop decreases-loop
 returns-2 c =
-    let f = c.before.before.before in
-    rw (start (head f.before), at_flag f _, c.before.refusal.given.1)
+    rw (start (head c.before.before), at_flag c.before _, c.in-Refused.is)
 
-returns-3 : tie.Need-returns-3 invariant-loop decreases-loop
+returns-3 : tie.Need-returns-then-not-more invariant-loop decreases-loop
 returns-3 c =
-    let f = c.before.before.before.before in
-    let m = c.before.before.more.given in
-    rw (start (head f.before), at_flag f _, m.1, not-true m.0.0 c.if1.true)
+    rw (start (head c.before.before.before), at_flag c.before.before _, c.in-Is.is, not-true c.in-Is.more c.if-not-more.true-raw)
 
-returns-4 : tie.Need-returns-4 invariant-loop decreases-loop
+returns-4 : tie.Need-returns-in-Refused-read invariant-loop decreases-loop
 returns-4 c =
-    let r = c.before.before.before in
-    rw (start (head r.before.before.before.before.before.before), at_read r _, c.before.refusal2.given.1)
+    rw (start (head c.before.before.before.before.before), at_read c.before _, c.in-Refused-read.is)
 
-loop-less : tie.Need-loop-smaller invariant-loop decreases-loop
+loop-less : tie.Need-loop-refusal-smaller invariant-loop decreases-loop
 loop-less c =
-    let r = c.before.before.before.before in
-    let f = r.before.before.before.before.before in
-    omega (arith, told said_flag flag-whole f.read-flag.ensures r.before.before.before.more.given.1, told said (bits-tells _) r.read2.ensures c.before.before.group.given.1)
+    omega (arith, told said_flag flag-whole c.read_flag.ensures c.in-Is.is, told said (bits-tells _) c.read.ensures c.in-Value-read.is)
 
-loop-again : tie.Need-loop-preserved invariant-loop decreases-loop
-loop-again c =
-    let r = c.before.before.before.before in
-    let l = r.before.before.before.before.before.before in (
-      rw c.saturated.ensures (min-le_right _ large),
-      λ first. rw (c.saturated.ensures, l.before.two_to.ensures, at_read r first, c.before.before.group.given.1),
-    )
+loop-again : tie.Need-loop-refusal-preserved invariant-loop decreases-loop
+loop-again c = (
+  rw c.saturated-value.ensures (min-le_right _ large),
+  λ first. rw (c.saturated-value.ensures, c.two_to-span.ensures, at_read c.before.before first, c.in-Value-read.is),
+)
 
-pub read-variable-bits-spec : {M : Type 1} → statement M
-read-variable-bits-spec =
+pub read_variable_bits_spec : {M : Type 1} → statement M
+read_variable_bits_spec =
     tie.close
     (tie.spec
     invariant-loop
@@ -134,9 +120,9 @@ read-variable-bits-spec =
     (λ c. search rules)
     returns-4
     (λ c. search rules)
-    (λ c. omega (arith, more-fits c.before))
-    (λ c. omega (arith, more-fits c.before))
-    (λ c. omega (arith, more-fits c.before))
+    (λ c. omega (arith, more-fits c))
+    (λ c. omega (arith, more-fits c))
+    (λ c. omega (arith, more-fits c))
     (λ c κs. search rules)
     loop-less
     loop-again)

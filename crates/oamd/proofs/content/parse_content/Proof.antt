@@ -10,28 +10,26 @@ use Rattle.oamd.proofs.ElementsFraming.{unwritten}
 use Rattle.oamd.proofs.content.parse_content.Statement.{statement}
 use Rattle.oamd.proofs.content.parse_content.Tie as tie
 
-few : tie.Need-overflow-cast-parse-trim-content
+few : tie.Need-overflow_cast-kinds
 unfolding object_limit
 few c = search rules
 
-objects : tie.Need-returns
+objects : tie.Need-returns-in-1
 unfolding content_in
 objects c =
-    let o = c.before.before.before in
-    rw o.before.before.before.match.keys1 o.parse-object-content.ensures
+    rw c.in-1.is c.parse_object_content.ensures
 
-trim : tie.Need-returns-2
+trim : tie.Need-returns-in-2
 unfolding content_in
 trim c =
-    let m = c.before in
-    unwritten (rw (m.match.keys2, length-map m.before.before.before.args.kinds.now kind_of) (c.parse-trim-content.ensures _ _))
+    unwritten (rw (c.in-2.is, length-map c.args.kinds.now kind_of) (c.parse_trim_content.ensures _ _))
 
-unknown : tie.Need-returns-3
+unknown : tie.Need-returns-in_default
 unfolding content_in pure
-unknown c = unwritten (rw (ne_eqb _ _ c.before.match.rest.0.1, ne_eqb _ _ c.before.match.rest.1))
+unknown c = unwritten (rw (ne_eqb _ _ c.in_default.in_default-own.rest.0.1, ne_eqb _ _ c.in_default.in_default-own.rest.1))
 
-pub parse-content-spec : {M : Type 1} → statement M
-parse-content-spec =
+pub parse_content_spec : {M : Type 1} → statement M
+parse_content_spec =
     tie.close
     (tie.spec
     (λ c κs. search rules)

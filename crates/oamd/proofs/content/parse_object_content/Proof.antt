@@ -7,22 +7,20 @@ use Rattle.oamd.proofs.ElementsFraming.{unwritten, object-read}
 use Rattle.oamd.proofs.content.parse_object_content.Statement.{statement}
 use Rattle.oamd.proofs.content.parse_object_content.Tie as tie
 
-duplicate : tie.Need-returns
+duplicate : tie.Need-returns-in_default
 unfolding object_in once_in ◌>>=◌ refuse
-duplicate c = rw c.before.enum-told2.given.1 (unwritten (rw c.invalid.ensures))
+duplicate c = rw c.in_default.is (unwritten (rw c.invalid.ensures))
 
-refused : tie.Need-returns-2
+refused : tie.Need-returns-in-Refused
 refused c =
-    let o = c.before.before.before.before.before.before in
-    rw o.before.before.before.enum_told.given.1 (object-read _ _ _ _ _ _ o.parse-object-element.ensures c.before.refusal.given.1 refl)
+    rw c.in-Nothing.is (object-read _ _ _ _ _ _ c.parse_object_element.ensures c.in-Refused.is refl)
 
-read : tie.Need-returns-3
+read : tie.Need-returns-in-Blocks
 read c =
-    let o = c.before.before.before.before.before.before.before in
-    rw o.before.before.before.enum_told.given.1 (object-read _ _ _ _ _ _ o.parse-object-element.ensures c.before.before.block-count.given.1 (c.end-element.ensures _ _))
+    rw c.in-Nothing.is (object-read _ _ _ _ _ _ c.parse_object_element.ensures c.in-Blocks.is (c.end_element.ensures _ _))
 
-pub parse-object-content-spec : {M : Type 1} → statement M
-parse-object-content-spec =
+pub parse_object_content_spec : {M : Type 1} → statement M
+parse_object_content_spec =
     tie.close
     (tie.spec
     (λ c. search rules)

@@ -7,14 +7,11 @@ use Rattle.oamd.proofs.decoder.clear_frame.Tie as tie
 returns : tie.Need-returns
 unfolding start_length blocks_length timings_length
 returns c =
-    let t = c.before.before in
-    let b = t.before.before.before in
-    let s = b.before.before.before in
-    record { its_start = s.clear.ensures; its_blocks = b.clear2.ensures; its_timings = t.clear-timings.ensures }
+    record { its_start = c.clear.ensures; its_blocks = c.clear-2.ensures; its_timings = c.clear_timings.ensures }
 
-pub clear-frame-spec : {M : Type 1} → statement M
+pub clear_frame_spec : {M : Type 1} → statement M
 unfolding start_length blocks_length timings_length
-clear-frame-spec =
+clear_frame_spec =
     tie.close
     (tie.spec
     (λ c κs. search rules)

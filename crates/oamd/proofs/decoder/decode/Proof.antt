@@ -21,99 +21,88 @@ tables c = lent c.args.retained.now c.args.start.now c.args.blocks.now c.args.ti
 
 -- back from the tests that were passed
 
-abbrev roomy : tie.Else1 → tie.Start
-roomy c = c.before.before.before.before.before.before.before.before
+abbrev roomy : tie.Else-not-has_room → tie.Start
+roomy c = c.before.before.before.before
 
-abbrev formed : tie.Else2 → tie.Else1
-formed c = c.before.before.before
+abbrev formed : tie.Else-not-in_form → tie.Else-not-has_room
+formed c = c.before.before
 
-abbrev sized : tie.After-parse-payload → tie.Else3
-sized c = c.before.before.before.before.before
+abbrev sized : tie.After-parse_payload → tie.Else-payload-gt-PAYLOAD_LIMIT
+sized c = c.before.before.before.before
 
 -- and what they say
 
-room : (c : tie.Else1) → has_room (tables (roomy c)) ≡ true
-room c = sym c.before.has_room.ensures ∙ not-false _ c.if1.false
+room : (c : tie.Else-not-has_room) → has_room (tables (roomy c)) ≡ true
+room c = sym c.has_room.ensures ∙ not-false _ c.if-not-has_room.false-raw
 
-form : (c : tie.Else2) → in_form (roomy (formed c)).args.retained.now ≡ true
-form c = sym c.before.in-form.ensures ∙ not-false _ c.if2.false
+form : (c : tie.Else-not-in_form) → in_form (roomy (formed c)).args.retained.now ≡ true
+form c = sym c.in_form.ensures ∙ not-false _ c.if-not-in_form.false-raw
 
-settles : (c : tie.Else3) →
+settles : (c : tie.Else-payload-gt-PAYLOAD_LIMIT) →
     let start = roomy (formed c.before) in
     decode start.args.payload.now (tables start) ≡ settle (tables start) (syntax start.args.payload.now)
 unfolding payload_limit
-settles c = taken-up _ _ (room (formed c.before)) (form c.before) c.if3.false
+settles c = taken-up _ _ (room (formed c.before)) (form c.before) c.if-payload-gt-PAYLOAD_LIMIT.false
 
-returns : tie.Need-returns
-returns c = no_room _ _ (sym c.before.has_room.ensures ∙ not-true _ c.if1.true)
+returns : tie.Need-returns-then-not-has_room
+returns c = no_room _ _ (sym c.has_room.ensures ∙ not-true _ c.if-not-has_room.true-raw)
 
-returns-2 : tie.Need-returns-2
-returns-2 c = no-form _ _ (room c.before.before.before) (sym c.before.in-form.ensures ∙ not-true _ c.if2.true)
+returns-2 : tie.Need-returns-then-not-in_form
+returns-2 c = no-form _ _ (room c.before.before) (sym c.in_form.ensures ∙ not-true _ c.if-not-in_form.true-raw)
 
-returns-3 : tie.Need-returns-3
+returns-3 : tie.Need-returns-then-payload-gt-PAYLOAD_LIMIT
 unfolding payload_limit
-returns-3 c = no_size _ _ (room (formed c.before)) (form c.before) c.if3.true
+returns-3 c = no_size _ _ (room (formed c.before)) (form c.before) c.if-payload-gt-PAYLOAD_LIMIT.true
 
-parse-payload-requires : tie.Need-parse-payload-requires
+parse-payload-requires : tie.Need-parse_payload-requires
 unfolding payload_limit
 parse-payload-requires c κs =
-    let f = c.before.before.before.before in
-    let r = room (formed f.before) in
+    let r = room (formed c.before.before.before.before) in
     let long = room-retained _ r in
-    (f.if3.false, (record { long = long; countable = countable _ long (form f.before) }, room-frame _ r))
+    (c.if-payload-gt-PAYLOAD_LIMIT.false, (record { long = long; countable = countable _ long (form c.before.before.before.before) }, room-frame _ r))
 
 -- The payload was refused
 
-clear-frame-requires : tie.Need-clear-frame-requires
+clear-frame-requires : tie.Need-clear_frame-requires
 unfolding start_length blocks_length timings_length
 clear-frame-requires c κs =
-    let p = c.before.before.before.before.before.before.before.before.before.before in
-    let r = room-frame _ (room (formed (sized p).before)) in
-    let k = p.parse-payload.auto in
+    let r = room-frame _ (room (formed (sized c.before.before.before.before.before.before.before.before).before)) in
     omega arith
 
-returns-4 : tie.Need-returns-4
+returns-4 : tie.Need-returns-in-Refused
 returns-4 c =
-    let z = c.before.before.before.before.before.before.before.before.before in
-    let p = z.before.before.before.before.before.before in
-    let e = p.parse-payload.ensures in
-    rw (settles (sized p))
-    (declined _ _ _ (rw z.refusal.given.1 at e.same) e.start_rest e.behind c.before.before.before.before.clear-frame.ensures)
+    rw (settles (sized c.before.before.before.before.before.before.before.before.before.before.before.before.before))
+    (declined _ _ _ (rw c.in-Refused.is at c.parse_payload.ensures.same) c.parse_payload.ensures.start_rest c.parse_payload.ensures.behind c.clear_frame.ensures)
 
 -- The frame was read, and tells of a tree
 
-tells : (c : tie.After-object-count) →
-    let p = c.before.before.before.before.before.before in
-    let a = (roomy (formed (sized p).before)).args in
-    Tells (state_of a.retained.now) (lending a.start.now a.blocks.now a.timings.now) a.payload.now
+tells : (c : tie.In-Frame) →
+    Tells (state_of (roomy (formed (sized c.before.before.before.before.before).before)).args.retained.now) (lending (roomy (formed (sized c.before.before.before.before.before).before)).args.start.now (roomy (formed (sized c.before.before.before.before.before).before)).args.blocks.now (roomy (formed (sized c.before.before.before.before.before).before)).args.timings.now) (roomy (formed (sized c.before.before.before.before.before).before)).args.payload.now
     (record {
-      objects = c.object-count.given.0.0;
-      count = c.object-count.given.0.1.0;
-      start = p.parse-payload.new.1.1.0;
-      blocks = p.parse-payload.new.1.1.1.0;
-      timings = p.parse-payload.new.1.1.1.1.0;
+      objects = c.in-Frame.object_count;
+      count = c.in-Frame.block_count;
+      start = c.parse_payload.new.start;
+      blocks = c.parse_payload.new.blocks;
+      timings = c.parse_payload.new.timings;
     })
 tells c =
-    frame-told _ _ _ (rw c.object-count.given.1 at c.before.before.before.before.before.before.parse-payload.ensures.same)
+    frame-told _ _ _ (rw c.in-Frame.is at c.parse_payload.ensures.same)
 
 retain-requires : tie.Need-retain-requires
 unfolding payload_limit blocks_length
 retain-requires c κs =
-    let o = c.before.before.before in
-    let p = o.before.before.before.before.before.before in
-    let f = sized p in
+    let f = sized c.before.before.before.before.before.before in
     let r = room (formed f.before) in
-    retainable _ _ _ _ _ f.if3.left _ (tells o) (room-retained _ r) (omega (arith, (room-frame _ r).for_blocks, p.parse-payload.auto))
+    retainable _ _ _ _ _ c.if-payload-gt-PAYLOAD_LIMIT.false _ (tells c.before) (room-retained _ r) (omega (arith, (room-frame _ r).for_blocks, c.parse_payload.auto))
 
-returns-5 : tie.Need-returns-5
+returns-5 : tie.Need-returns-in-Frame
 unfolding payload_limit
 returns-5 c =
-    let o = c.before.before.before.before.before in
-    let f = sized o.before.before.before.before.before.before in
-    rw (settles f) (accepted _ _ _ _ _ f.if3.left _ (tells o) c.before.retain.ensures)
+    let f = sized c.before.before.before.before.before.before.before.before in
+    rw (settles f) (accepted _ _ _ _ _ c.if-payload-gt-PAYLOAD_LIMIT.false _ (tells c.before.before.before) c.retain.ensures)
 
-pub decode-spec : {M : Type 1} → statement M
-decode-spec =
+pub decode_spec : {M : Type 1} → statement M
+decode_spec =
     tie.close
     (tie.spec
     (λ c κs. search rules)
@@ -122,7 +111,7 @@ decode-spec =
     (λ c. search rules)
     (λ c. search rules)
     returns
-    (λ c κs. room-retained _ (room c.before))
+    (λ c κs. room-retained _ (room c))
     (λ c. search rules)
     (λ c. search rules)
     (λ c. search rules)

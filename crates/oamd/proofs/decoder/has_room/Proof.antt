@@ -5,6 +5,6 @@ use Rattle.standard.specs.Calls.{has_room}
 use Rattle.oamd.proofs.decoder.has_room.Statement.{statement}
 use Rattle.oamd.proofs.decoder.has_room.Tie as tie
 
-pub has-room-spec : {M : Type 1} → statement M
+pub has_room_spec : {M : Type 1} → statement M
 unfolding has_room retained_length start_length blocks_length timings_length
-has-room-spec = tie.close (tie.spec (λ c. refl))
+has_room_spec = tie.close (tie.spec (λ c. refl))

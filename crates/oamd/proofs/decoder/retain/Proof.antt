@@ -9,16 +9,16 @@ use Rattle.oamd.proofs.decoder.retain.Statement.{statement}
 use Rattle.oamd.proofs.decoder.retain.Tie as tie
 
 -- where the last block ends
-end : (c : tie.Start) → (c.args.block-count - 1) * c.args.object-count * row_width + c.args.object-count * row_width ≡ c.args.block-count * c.args.object-count * row_width
-end c = last-place c.args.block-count c.args.object-count c.requires.some
+end : (c : tie.Start) → (c.args.block_count - 1) * c.args.object_count * row_width + c.args.object_count * row_width ≡ c.args.block_count * c.args.object_count * row_width
+end c = last-place c.args.block_count c.args.object_count c.requires.some
 
 returns : tie.Need-returns
 unfolding row_width
-returns c = record { counts = rw c.count-unsettled.ensures; kept = c.before.before.keep-rows.ensures }
+returns c = record { counts = rw c.count_unsettled.ensures; kept = c.keep_rows.ensures }
 
-pub retain-spec : {M : Type 1} → statement M
+pub retain_spec : {M : Type 1} → statement M
 unfolding row_width
-retain-spec =
+retain_spec =
     tie.close
     (tie.spec
     (λ c. search rules)

@@ -5,23 +5,19 @@ use Rattle.oamd.specs.Head.{enter}
 use Rattle.oamd.proofs.element.enter_element.Statement.{statement}
 use Rattle.oamd.proofs.element.enter_element.Tie as tie
 
-returns-2 : tie.Need-returns-2
+returns-2 : tie.Need-returns-in-Refused-read_flag
 unfolding enter ◌>>◌
 returns-2 c =
-    let f = c.before.before.before in
-    let a = f.before.before in
-    rw (← a.before.before.parse-alternate-data.ensures, a.next.given.1, ← f.read-flag.ensures, c.before.refusal2.given.1)
+    rw (← c.parse_alternate_data.ensures, c.in-To.is, ← c.read_flag.ensures, c.in-Refused-read_flag.is)
 
-returns-3 : tie.Need-returns-3
+returns-3 : tie.Need-returns-in-Is
 unfolding enter ◌>>◌ pure
 returns-3 c =
-    let f = c.before.before.before in
-    let a = f.before.before in
-    rw (← a.before.before.parse-alternate-data.ensures, a.next.given.1, ← f.read-flag.ensures, c.before.-discard-unknown.given.1)
+    rw (← c.parse_alternate_data.ensures, c.in-To.is, ← c.read_flag.ensures, c.in-Is.is)
 
-pub enter-element-spec : {M : Type 1} → statement M
+pub enter_element_spec : {M : Type 1} → statement M
 unfolding enter ◌>>◌
-enter-element-spec =
+enter_element_spec =
     tie.close
     (tie.spec
     (λ c κs. search rules)
@@ -30,6 +26,6 @@ enter-element-spec =
     (λ c κs. search rules)
     (λ c. search rules)
     (λ c. search rules)
-    (λ c. rw (← c.before.before.before.parse-alternate-data.ensures, c.before.refusal.given.1))
+    (λ c. rw (← c.parse_alternate_data.ensures, c.in-Refused.is))
     returns-2
     returns-3)

@@ -6,31 +6,26 @@ use Rattle.standard.specs.Syntax.{alternate}
 use Rattle.oamd.proofs.element.parse_alternate_data.Statement.{statement}
 use Rattle.oamd.proofs.element.parse_alternate_data.Tie as tie
 
-returns : tie.Need-returns
+returns : tie.Need-returns-then-not-alternate_data
 unfolding alternate pure
-returns c = rw (not-true c.before.before.args.alternate-data c.if1.true)
+returns c = rw (not-true c.args.alternate_data c.if-not-alternate_data.true-raw)
 
-returns-2 : tie.Need-returns-2
+returns-2 : tie.Need-returns-then-alternate_id-ne0
 unfolding alternate ◌>>=◌ refuse here require
 returns-2 c =
-    let m = c.before.before.before in
-    let r = m.before.before in
-    rw (not-false r.before.before.before.args.alternate-data r.before.if1.false, ← r.read.ensures, m.alternate-id.given.1, ne_eqb _ _ c.before.if2.true, c.unsupported.ensures)
+    rw (not-false c.args.alternate_data c.if-not-alternate_data.false-raw, ← c.read.ensures, c.in-Value.is, ne_eqb _ _ c.if-alternate_id-ne0.true, c.unsupported.ensures)
 
-returns-3 : tie.Need-returns-3
+returns-3 : tie.Need-returns-in-Refused
 unfolding alternate ◌>>=◌ here
 returns-3 c =
-    let r = c.before.before.before in
-    rw (not-false r.before.before.before.args.alternate-data r.before.if1.false, ← r.read.ensures, c.before.refusal.given.1)
+    rw (not-false c.args.alternate_data c.if-not-alternate_data.false-raw, ← c.read.ensures, c.in-Refused.is)
 
-returns-4 : tie.Need-returns-4
+returns-4 : tie.Need-returns-else-alternate_id-ne0
 unfolding alternate ◌>>=◌ pure here require
 returns-4 c =
-    let m = c.before.before in
-    let r = m.before.before in
-    rw (not-false r.before.before.before.args.alternate-data r.before.if1.false, ← r.read.ensures, m.alternate-id.given.1, eq-eqb _ _ c.if2.false)
+    rw (not-false c.args.alternate_data c.if-not-alternate_data.false-raw, ← c.read.ensures, c.in-Value.is, eq-eqb _ _ c.if-alternate_id-ne0.false)
 
-pub parse-alternate-data-spec : {M : Type 1} → statement M
-parse-alternate-data-spec =
+pub parse_alternate_data_spec : {M : Type 1} → statement M
+parse_alternate_data_spec =
     tie.close
     (tie.spec returns (λ c κs. search rules) (λ c. search rules) (λ c. search rules) (λ c κs. search rules) returns-2 returns-3 returns-4)

@@ -7,9 +7,9 @@ use Rattle.standard.specs.Syntax.{element_count}
 use Rattle.oamd.proofs.element.read_element_count.Statement.{statement}
 use Rattle.oamd.proofs.element.read_element_count.Tie as tie
 
-pub read-element-count-spec : {M : Type 1} → statement M
+pub read_element_count_spec : {M : Type 1} → statement M
 unfolding element_count element_limit ◌>>=◌ ◌>>◌ pure refuse here require
-read-element-count-spec =
+read_element_count_spec =
     tie.close
     (tie.spec
     (λ c κs. search rules)
@@ -17,9 +17,7 @@ read-element-count-spec =
     (λ c. search rules)
     (λ c κs. search rules)
     (λ c.
-    let v = c.before.before.before in
-    rw (c.limit.ensures, ← v.before.before.read-extended.ensures, v.element-count.given.1, lt-leb _ _ c.before.if1.true))
-    (λ c. rw (← c.before.before.before.read-extended.ensures, c.before.refusal.given.1))
+    rw (c.limit.ensures, ← c.read_extended.ensures, c.in-Value.is, lt-leb _ _ c.if-element_count-gt-MAX_OAMD_ELEMENTS.true))
+    (λ c. rw (← c.read_extended.ensures, c.in-Refused.is))
     (λ c.
-    let v = c.before.before in
-    rw (← v.before.before.read-extended.ensures, v.element-count.given.1, le-leb _ _ c.if1.false)))
+    rw (← c.read_extended.ensures, c.in-Value.is, le-leb _ _ c.if-element_count-gt-MAX_OAMD_ELEMENTS.false)))

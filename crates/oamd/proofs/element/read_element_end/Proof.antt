@@ -12,34 +12,26 @@ use Rattle.oamd.proofs.element.read_element_end.Statement.{statement}
 use Rattle.oamd.proofs.element.read_element_end.Tie as tie
 
 -- at most 69,904 bytes, and the place after their number is within the limit
-sized : (c : tie.After-size-bits) → let n = c.size-bits.given.0 in
-    (n.0 < 69904) × (n.1.0.0 ≤ c.before.before.before.before.args.limit.0)
+sized : (c : tie.In-Value) → (c.in-Value.size_bits < 69904) × (c.in-Value.inside.0 ≤ c.args.limit.0)
 sized c =
-    let r = c.before.before.read-variable-bits-max.ensures in
-    let g = c.size-bits.given.1 in
-    (gives said (variable-lt 4 _ (omega arith)) r g, (told said (variable-tells 4 _ 3) r g).1)
+    (gives said (variable-lt 4 _ (omega arith)) c.read_variable_bits_max.ensures c.in-Value.is, (told said (variable-tells 4 _ 3) c.read_variable_bits_max.ensures c.in-Value.is).1)
 
-cut-element : tie.Need-returns
+cut-element : tie.Need-returns-then-element_end-limit
 unfolding element_end element_size map_p ◌>>=◌ ◌>>◌ refuse here the_end require
 cut-element c =
-    let l = c.before.before.before.before in
-    let b = l.before.before.before.before in
-    let z = b.before.before in
-    rw (← z.before.before.read-variable-bits-max.ensures, z.size-bits.given.1, ← b.bits.ensures, lt-leb _ _ l.if1.true, c.truncated.ensures)
+    rw (← c.read_variable_bits_max.ensures, c.in-Value.is, ← c.bits-element_bits.ensures, lt-leb _ _ c.if-element_end-limit.true, c.truncated.ensures)
 
-cut-size : tie.Need-returns-2
+cut-size : tie.Need-returns-in-Refused
 unfolding element_end element_size map_p ◌>>=◌
-cut-size c = rw (← c.before.before.before.read-variable-bits-max.ensures, c.before.refusal.given.1)
+cut-size c = rw (← c.read_variable_bits_max.ensures, c.in-Refused.is)
 
-ends : tie.Need-returns-3
+ends : tie.Need-returns-else-element_end-limit
 unfolding element_end element_size map_p ◌>>=◌ ◌>>◌ pure here the_end require
 ends c =
-    let b = c.before.before.before.before in
-    let z = b.before.before in
-    rw (← z.before.before.read-variable-bits-max.ensures, z.size-bits.given.1, ← b.bits.ensures, le-leb _ _ c.if1.false)
+    rw (← c.read_variable_bits_max.ensures, c.in-Value.is, ← c.bits-element_bits.ensures, le-leb _ _ c.if-element_end-limit.false)
 
-pub read-element-end-spec : {M : Type 1} → statement M
-read-element-end-spec =
+pub read_element_end_spec : {M : Type 1} → statement M
+read_element_end_spec =
     tie.close
     (tie.spec
     (λ c κs. search rules)
@@ -48,9 +40,9 @@ read-element-end-spec =
     (λ c. search rules)
     (λ c. search rules)
     (λ c κs. search rules)
-    (λ c. omega (arith, sized c.before.before.before.before))
-    (λ c. omega (arith, sized c.before.before.before.before.before.before.before))
-    (λ c. omega (arith, sized c.before.before.before.before.before.before.before.before.before))
+    (λ c. omega (arith, sized c.before.before.before))
+    (λ c. omega (arith, sized c.before.before.before.before.before.before))
+    (λ c. omega (arith, sized c.before.before.before.before.before.before.before.before))
     (λ c. search rules)
     (λ c κs. search rules)
     cut-element

@@ -5,35 +5,27 @@ use Rattle.oamd.specs.Head.{element_head}
 use Rattle.oamd.proofs.element.read_element_head.Statement.{statement}
 use Rattle.oamd.proofs.element.read_element_head.Tie as tie
 
-cut-id : tie.Need-returns
+cut-id : tie.Need-returns-in-Refused
 unfolding element_head ◌>>=◌ here
-cut-id c = rw (← c.before.before.before.read.ensures, c.before.refusal.given.1)
+cut-id c = rw (← c.read.ensures, c.in-Refused.is)
 
-cut-end : tie.Need-returns-2
+cut-end : tie.Need-returns-in-Refused-read_element_end
 unfolding element_head ◌>>=◌ here
 cut-end c =
-    let z = c.before.before.before in
-    let i = z.before.before in
-    rw (← i.before.before.read.ensures, i.id.given.1, ← z.read-element-end.ensures, c.before.refusal2.given.1)
+    rw (← c.read.ensures, c.in-Value.is, ← c.read_element_end.ensures, c.in-Refused-read_element_end.is)
 
-cut_inside : tie.Need-returns-3
+cut_inside : tie.Need-returns-in-Refused-enter_element
 unfolding element_head ◌>>=◌ ◌>>◌ within here
 cut_inside c =
-    let n = c.before.before.before in
-    let z = n.before.before in
-    let i = z.before.before.before.before in
-    rw (← i.before.before.read.ensures, i.id.given.1, ← z.before.before.read-element-end.ensures, z.end.given.1, ← n.enter-element.ensures, c.before.refusal3.given.1)
+    rw (← c.read.ensures, c.in-Value.is, ← c.read_element_end.ensures, c.in-At.is, ← c.enter_element.ensures, c.in-Refused-enter_element.is)
 
-entered : tie.Need-returns-4
+entered : tie.Need-returns-in-To
 unfolding element_head ◌>>=◌ ◌>>◌ pure within here
 entered c =
-    let n = c.before.before.before in
-    let z = n.before.before in
-    let i = z.before.before.before.before in
-    rw (← i.before.before.read.ensures, i.id.given.1, ← z.before.before.read-element-end.ensures, z.end.given.1, ← n.enter-element.ensures, c.before.content.given.1)
+    rw (← c.read.ensures, c.in-Value.is, ← c.read_element_end.ensures, c.in-At.is, ← c.enter_element.ensures, c.in-To.is)
 
-pub read-element-head-spec : {M : Type 1} → statement M
-read-element-head-spec =
+pub read_element_head_spec : {M : Type 1} → statement M
+read_element_head_spec =
     tie.close
     (tie.spec
     (λ c κs. search rules)

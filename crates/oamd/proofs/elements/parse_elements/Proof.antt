@@ -30,46 +30,40 @@ decreases-loop payload limit list kinds start blocks₀ timings₀ found₀ plac
 abbrev entry : tie.In-loop invariant-loop decreases-loop → tie.Start invariant-loop decreases-loop
 entry c = c.before.before.before.before.before
 
-abbrev looped : tie.After-head invariant-loop decreases-loop → tie.In-loop invariant-loop decreases-loop
-looped c = c.before.before.before
+abbrev looped : tie.In-Is invariant-loop decreases-loop → tie.In-loop invariant-loop decreases-loop
+looped c = c.before.before
 
-abbrev head : tie.After-parse-content invariant-loop decreases-loop → tie.After-head invariant-loop decreases-loop
-head c = c.before.before.before.before
+abbrev head : tie.After-parse_content invariant-loop decreases-loop → tie.In-Is invariant-loop decreases-loop
+head c = c.before.before.before
 
-parse-content-requires : tie.Need-parse-content-requires invariant-loop decreases-loop
+parse-content-requires : tie.Need-parse_content-requires invariant-loop decreases-loop
 parse-content-requires c κs =
-    let l = looped c.before.before.before in
-    let room = (entry l).pre.1 in
-    let k = l.before.loop.inv.behind in
-    record { few = room.few; its_start = room.its_start; for_blocks = omega arith; for_timings = omega arith }
+    let l = looped c.before.before in
+    record { few = (entry l).requires.1.few; its_start = (entry l).requires.1.its_start; for_blocks = omega arith; for_timings = omega arith }
 
-cut-head : tie.Need-returns invariant-loop decreases-loop
+cut-head : tie.Need-returns-in-Refused invariant-loop decreases-loop
 cut-head c =
-    let h = c.before.before.before in
-    let l = h.before in
-    no-head l.before.loop.invariant l.loop-test.true h.read-element-head.ensures c.before.refusal.given.1
+    no-head c.loop.invariant c.loop-test.true c.read_element_head.ensures c.in-Refused.is
 
-cut-content : tie.Need-returns-2 invariant-loop decreases-loop
+cut-content : tie.Need-returns-in-Refused-parse_content invariant-loop decreases-loop
 cut-content c =
-    let k = c.before.before.before.before.before.before in
-    let h = head k in
+    let h = head c.before.before.before.before in
     let l = looped h in
-    stop l.before.loop.inv l.loop-test.taken h.before.before.read-element-head.ensures h.head.given.1 k.parse-content.ensures c.before.refusal2.given.1
+    stop l.loop.invariant l.loop-test.true h.read_element_head.ensures h.in-Is.is c.parse_content.ensures c.in-Refused-parse_content.is
 
-add-counter : tie.Need-overflow-add-counter invariant-loop decreases-loop
+add-counter : tie.Need-overflow_step invariant-loop decreases-loop
 add-counter c =
-    let l = looped (head c.before.before.before.before.before.before.before) in
-    omega (arith, l.loop-test.taken, (entry l).good)
+    let l = looped (head c.before.before.before.before.before) in
+    omega (arith, l.loop-test.true, (entry l).well_formed)
 
 loop-again : tie.Need-loop-preserved invariant-loop decreases-loop
 loop-again c =
-    let k = c.before.before.before.before.before.before.before in
-    let h = head k in
+    let h = head c.before.before.before.before.before in
     let l = looped h in
-    next l.before.loop.inv l.loop-test.taken h.before.before.read-element-head.ensures h.head.given.1 k.parse-content.ensures c.before.before.now-found.given.1
+    next l.loop.invariant l.loop-test.true h.read_element_head.ensures h.in-Is.is c.parse_content.ensures c.in-Read.is
 
-pub parse-elements-spec : {M : Type 1} → statement M
-parse-elements-spec =
+pub parse_elements_spec : {M : Type 1} → statement M
+parse_elements_spec =
     tie.close
     (tie.spec
     invariant-loop
@@ -90,6 +84,6 @@ parse-elements-spec =
     add-counter
     (λ c. omega arith)
     loop-again
-    (λ c. c.before.loop.invariant.behind.blocks_long)
-    (λ c. c.before.loop.invariant.behind.timings_long)
-    (λ c. done c.before.loop.invariant c.loop-test.false))
+    (λ c. c.loop.invariant.behind.blocks_long)
+    (λ c. c.loop.invariant.behind.timings_long)
+    (λ c. done c.loop.invariant c.loop-test.false))

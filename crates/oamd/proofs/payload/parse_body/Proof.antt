@@ -17,81 +17,64 @@ use Rattle.oamd.proofs.Telling.{untold}
 use Rattle.oamd.proofs.payload.parse_body.Statement.{statement}
 use Rattle.oamd.proofs.payload.parse_body.Tie as tie
 
-abbrev entry : tie.After-write-starts → tie.Start
-entry c = c.before.before.before.before.before.before.before.before.before.before.before.before
+abbrev entry : tie.After-write_starts → tie.Start
+entry c = c.before.before.before.before.before.before.before.before
 
-abbrev written : tie.After-write-starts → List ℤ
+abbrev written : tie.After-write_starts → List ℤ
 written c =
-    let a = (entry c).args in
-    over (rows_numbers (start_rows (state_of a.retained.now) (map kind_of a.kinds.now))) a.start.now
+    over (rows_numbers (start_rows (state_of (entry c).args.retained.now) (map kind_of (entry c).args.kinds.now))) (entry c).args.start.now
 
 -- the start rows are written, and nothing behind them
-begun : (c : tie.After-write-starts) →
-    let a = (entry c).args in
-    rows_of (length a.kinds.now) c.write-starts.new.1.1.0 ≡ start_rows (state_of a.retained.now) (map kind_of a.kinds.now)
+begun : (c : tie.After-write_starts) →
+    rows_of (length (entry c).args.kinds.now) c.write_starts.new.start ≡ start_rows (state_of (entry c).args.retained.now) (map kind_of (entry c).args.kinds.now)
 begun c =
-    let a = (entry c).args in
-    ap (rows_of (length a.kinds.now)) {y = written c} c.write-starts.ensures ∙ starts-back a.kinds.now a.retained.now a.start.now
+    ap (rows_of (length (entry c).args.kinds.now)) {y = written c} c.write_starts.ensures ∙ starts-back (entry c).args.kinds.now (entry c).args.retained.now (entry c).args.start.now
 
-rest : (c : tie.After-write-starts) → drop start_length c.write-starts.new.1.1.0 ≡ drop start_length (entry c).args.start.now
+rest : (c : tie.After-write_starts) → drop start_length c.write_starts.new.start ≡ drop start_length (entry c).args.start.now
 rest c =
-    let a = (entry c).args in
-    let p = (entry c).requires.1 in
-    ap (drop start_length) {y = written c} c.write-starts.ensures ∙ starts-rest a.kinds.now a.retained.now a.start.now p.0 p.1.1.for_start
+    ap (drop start_length) {y = written c} c.write_starts.ensures ∙ starts-rest (entry c).args.kinds.now (entry c).args.retained.now (entry c).args.start.now (entry c).requires.1.0 (entry c).requires.1.1.1.for_start
 
-parse-elements-requires : tie.Need-parse-elements-requires
+parse-elements-requires : tie.Need-parse_elements-elements-requires
 unfolding row_width object_limit start_length
 parse-elements-requires c κs =
-    let w = c.before.before.before.before in
-    let p = (entry w).requires in
-    let few = p.1.0 in
-    let room = p.1.1.1 in
-    let long = room.for_start in
-    let same = w.write-starts.auto.1.1.0 in
-    (p.0, record { few = few; its_start = omega arith; for_blocks = room.for_blocks; for_timings = room.for_timings })
+    ((entry c.before.before.before).requires.0, record { few = (entry c.before.before.before).requires.1.0; its_start = omega arith; for_blocks = (entry c.before.before.before).requires.1.1.1.for_blocks; for_timings = (entry c.before.before.before).requires.1.1.1.for_timings })
 
-cast-end-payload : tie.Need-overflow-cast-end-payload
+cast-end-payload : tie.Need-overflow_cast-kinds
 unfolding object_limit
 cast-end-payload c =
-    let few = (entry c.before.before.before.before.before.before.before.before).requires.1.0 in
+    let few = c.requires.1.0 in
     omega arith
 
-returns : tie.Need-returns
+returns : tie.Need-returns-in-Refused
 unfolding body_in ◌>>=◌
-returns c = untold (rw (← c.before.before.before.read-flag.ensures, c.before.refusal.given.1))
+returns c = untold (rw (← c.read_flag.ensures, c.in-Refused.is))
 
-returns-2 : tie.Need-returns-2
+returns-2 : tie.Need-returns-in-Refused-read_element_count
 unfolding body_in ◌>>=◌
 returns-2 c =
-    let k = c.before.before.before in
-    let f = k.before.before in
-    untold (rw (← f.before.before.read-flag.ensures, f.alternate-data.given.1, ← k.read-element-count.ensures, c.before.refusal2.given.1))
+    untold (rw (← c.read_flag.ensures, c.in-Is.is, ← c.read_element_count.ensures, c.in-Refused-read_element_count.is))
 
-returns-3 : tie.Need-returns-3
+returns-3 : tie.Need-returns-in-Value
 unfolding body_in ◌>>=◌
 returns-3 c =
-    let e = c.before.before.before.before in
-    let w = e.before.before.before.before.before in
-    let k = w.before.before.before in
-    let f = k.before.before.before.before in
     record {
       same = rw (
-        ← f.before.before.read-flag.ensures,
-        f.alternate-data.given.1,
-        ← k.before.before.read-element-count.ensures,
-        k.count.given.1,
-        rw (begun w) at e.parse-elements.ensures.same,
-        length-map (entry w).args.kinds.now kind_of,
-        ← w.write-starts.ensures,
+        ← c.read_flag.ensures,
+        c.in-Is.is,
+        ← c.read_element_count.ensures,
+        c.in-Value.is,
+        rw (begun c.before.before.before.before.before.before.before.before) at c.parse_elements-elements.ensures.same,
+        length-map (entry c.before.before.before.before.before.before.before.before).args.kinds.now kind_of,
+        ← c.write_starts.ensures,
       )
-          (c.end-payload.ensures _ _ _);
-      start_rest = rest w;
-      behind = e.parse-elements.ensures.behind;
+          (c.end_payload.ensures _ _ _);
+      start_rest = rest c.before.before.before.before.before.before.before.before;
+      behind = c.parse_elements-elements.ensures.behind;
     }
 
-pub parse-body-spec : {M : Type 1} → statement M
+pub parse_body_spec : {M : Type 1} → statement M
 unfolding row_width object_limit start_length
-parse-body-spec =
+parse_body_spec =
     tie.close
     (tie.spec
     (λ c κs. search rules)

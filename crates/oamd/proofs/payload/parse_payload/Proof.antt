@@ -16,84 +16,64 @@ use Rattle.oamd.proofs.Telling.{kinds-read, untold}
 use Rattle.oamd.proofs.payload.parse_payload.Statement.{statement}
 use Rattle.oamd.proofs.payload.parse_payload.Tie as tie
 
-counted : (c : tie.After-count) → Counted c.count.given.0.0
-counted c = gives said count-form c.before.before.read-object-count.ensures c.count.given.1
+counted : (c : tie.In-Value) → Counted c.in-Value.count
+counted c = gives said count-form c.read_object_count.ensures c.in-Value.is
 
-parse-program-assignment-requires : tie.Need-parse-program-assignment-requires
+parse-program-assignment-requires : tie.Need-parse_program_assignment-requires
 unfolding object_limit
-parse-program-assignment-requires c κs = omega (arith, counted c.before.before)
+parse-program-assignment-requires c κs = omega (arith, counted c.before)
 
-part_end : tie.Need-slice-bounds-parse-body-end
+part_end : tie.Need-slice_bounds-parse_body-end
 unfolding object_limit
 part_end c =
-    let k = c.before.before.before.before.before in
-    omega (arith, counted k.before.before.before, k.parse-program-assignment.ensures.long)
+    omega (arith, counted c.before.before.before.before, c.parse_program_assignment.ensures.long)
 
-parse-body-requires : tie.Need-parse-body-requires
+parse-body-requires : tie.Need-parse_body-requires
 unfolding payload_limit object_limit
 parse-body-requires c κs =
-    let k = c.before.before.before.before.before.before.before.before.before in
-    let n = k.before.before.before in
-    let l = n.before.before.before.before.before.before.before in
-    let start = l.before.before.before in
-    let few = counted n in
-    let size = l.bits.ensures in
-    let short = start.requires.0 in
-    (omega arith, (simp length-take (omega arith), (start.requires.1.0, start.requires.1.1)))
+    let few = counted c.before.before.before.before.before.before.before.before in
+    (omega arith, (simp length-take (omega arith), (c.before.requires.1.0, c.before.requires.1.1)))
 
-returns : tie.Need-returns
+returns : tie.Need-returns-in-Refused
 unfolding payload_in ◌>>◌
 returns c =
-    let v = c.before.before.before in
-    untold (rw (← v.before.bits.ensures, ← v.read-version.ensures, c.before.refusal.given.1))
+    untold (rw (← c.bits-limit.ensures, ← c.read_version.ensures, c.in-Refused.is))
 
-returns-2 : tie.Need-returns-2
+returns-2 : tie.Need-returns-in-Refused-read_object_count
 unfolding payload_in ◌>>=◌ ◌>>◌
 returns-2 c =
-    let n = c.before.before.before in
-    let v = n.before.before in
-    untold (rw (← v.before.before.before.bits.ensures, ← v.before.before.read-version.ensures, v.count_at.given.1, ← n.read-object-count.ensures, c.before.refusal2.given.1))
+    untold (rw (← c.bits-limit.ensures, ← c.read_version.ensures, c.in-To.is, ← c.read_object_count.ensures, c.in-Refused-read_object_count.is))
 
-returns-3 : tie.Need-returns-3
+returns-3 : tie.Need-returns-in-Refused-parse_program_assignment
 unfolding payload_in ◌>>=◌ ◌>>◌
 returns-3 c =
-    let k = c.before.before.before.before in
-    let n = k.before.before.before in
-    let v = n.before.before.before.before in
     untold (rw (
-      ← v.before.before.before.bits.ensures,
-      ← v.before.before.read-version.ensures,
-      v.count_at.given.1,
-      ← n.before.before.read-object-count.ensures,
-      n.count.given.1,
-      none-listed (rw c.before.refusal3.given.1 at k.parse-program-assignment.ensures),
+      ← c.bits-limit.ensures,
+      ← c.read_version.ensures,
+      c.in-To.is,
+      ← c.read_object_count.ensures,
+      c.in-Value.is,
+      none-listed (rw c.in-Refused-parse_program_assignment.is at c.parse_program_assignment.ensures),
     ))
 
-returns-4 : tie.Need-returns-4
+returns-4 : tie.Need-returns-in-To-parse_program_assignment
 unfolding payload_in ◌>>=◌ ◌>>◌
 returns-4 c =
-    let b = c.before.before.before.before in
-    let x = b.before.before.before.before.before.before.before in
-    let k = x.before.before.before in
-    let n = k.before.before.before in
-    let v = n.before.before.before.before in
-    let l = v.before.before.before in
-    let m = n.count.given.0 in
-    let part : m.0 - 0 ≡ m.0 = omega arith in
-    let read = assignment m.0 l.before.before.before.args.payload.now l.bits.result.0 m.1.0.0 in
+    let part : c.in-Value.count - 0 ≡ c.in-Value.count = omega arith in
+    let read = assignment c.in-Value.count c.before.args.payload.now c.bits-limit.result.0 c.in-Value.at.0 in
     rw (
-      ← v.before.before.before.bits.ensures,
-      ← v.before.before.read-version.ensures,
-      v.count_at.given.1,
-      ← n.before.before.read-object-count.ensures,
-      n.count.given.1,
-      kinds-read {m = read} (rw x.next.given.1 at k.parse-program-assignment.ensures),
+      ← c.bits-limit.ensures,
+      ← c.read_version.ensures,
+      c.in-To.is,
+      ← c.read_object_count.ensures,
+      c.in-Value.is,
+      kinds-read {m = read} (rw c.in-To-parse_program_assignment.is at c.parse_program_assignment.ensures),
     )
-    (rw part at b.parse-body.ensures)
+    (rw part at c.parse_body.ensures)
 
-pub parse-payload-spec : {M : Type 1} → statement M
+pub parse_payload_spec : {M : Type 1} → statement M
 unfolding payload_limit object_limit
-parse-payload-spec =
+parse_payload_spec =
     tie.close
     (tie.spec
     (λ c κs. omega arith)

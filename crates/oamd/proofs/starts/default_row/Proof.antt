@@ -9,9 +9,7 @@ use Rattle.oamd.proofs.starts.default_row.Tie as tie
 returns : tie.Need-returns
 unfolding default_row
 returns c =
-    let k = c.before.kind-of in
-    let p = c.before.before in
-    rw (back {z = k.result} k.type-inv, k.ensures, to_z-of_z p.before.ranges.kind, p.default-picture.ensures, back {z = c.doubted.result} c.doubted.type-inv, c.doubted.ensures, to_z-of_z p.before.ranges.doubt)
+    rw (back {z = c.kind_of.result} c.kind_of.type_inv, c.kind_of.ensures, to_z-of_z c.ranges.kind, c.default_picture-picture.ensures, back {z = c.doubted.result} c.doubted.type_inv, c.doubted.ensures, to_z-of_z c.ranges.doubt)
 
-pub default-row-spec : {M : Type 1} → statement M
-default-row-spec = tie.close (tie.spec (λ c κs. search rules) (λ c κs. search rules) (λ c κs. search rules) returns)
+pub default_row_spec : {M : Type 1} → statement M
+default_row_spec = tie.close (tie.spec (λ c κs. search rules) (λ c κs. search rules) (λ c κs. search rules) returns)

@@ -6,15 +6,13 @@ use Rattle.rows.proofs.Tests.{bits_is}
 use Rattle.oamd.proofs.starts.doubted.Statement.{statement}
 use Rattle.oamd.proofs.starts.doubted.Tie as tie
 
-returns : tie.Need-returns
+returns : tie.Need-returns-then-doubt-eq0
 returns c =
-    let start = c.before in
-    rw (← bits_is 0 start.args.doubt (omega arith) start.ranges.doubt.sfits, eq-eqb _ _ c.if1.true, to_z-of_z start.ranges.mark)
+    rw (← bits_is 0 c.args.doubt (omega arith) c.ranges.doubt.sfits, eq-eqb _ _ c.if-doubt-eq0.true, to_z-of_z c.ranges.mark)
 
-returns-2 : tie.Need-returns-2
+returns-2 : tie.Need-returns-else-doubt-eq0
 returns-2 c =
-    let start = c.before in
-    rw (← bits_is 0 start.args.doubt (omega arith) start.ranges.doubt.sfits, ne_eqb _ _ c.if1.false)
+    rw (← bits_is 0 c.args.doubt (omega arith) c.ranges.doubt.sfits, ne_eqb _ _ c.if-doubt-eq0.false)
 
-pub doubted-spec : {M : Type 1} → statement M
-doubted-spec = tie.close (tie.spec returns returns-2)
+pub doubted_spec : {M : Type 1} → statement M
+doubted_spec = tie.close (tie.spec returns returns-2)

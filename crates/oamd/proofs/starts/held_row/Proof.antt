@@ -9,8 +9,7 @@ use Rattle.oamd.proofs.starts.held_row.Tie as tie
 returns : tie.Need-returns
 unfolding held_row
 returns c =
-    let start = c.before.before in
-    rw (c.doubted.ensures, to_z-of_z start.ranges.doubt, back {z = start.args.row.mark} c.before.struct_told.given.1.1.1.1.1.0.1)
+    rw (back {z = c.doubted.result} c.doubted.type_inv, c.doubted.ensures, to_z-of_z c.ranges.doubt, back {z = c.args.row.mark} c.struct_told-1.given.1.1.1.1.1.0.1)
 
-pub held-row-spec : {M : Type 1} → statement M
-held-row-spec = tie.close (tie.spec (λ c κs. search rules) returns)
+pub held_row_spec : {M : Type 1} → statement M
+held_row_spec = tie.close (tie.spec (λ c κs. search rules) returns)

@@ -17,9 +17,8 @@ small dynamic = omega arith
 
 returns : tie.Need-returns
 returns c =
-    let start = c.before in
-    let k = kind_of start.args.kind in
-    rw (c.kind-of.ensures, to_z-of_z start.ranges.kind) (bits_is (kind_code k) start.args.held (small k) start.ranges.held.sfits)
+    let k = kind_of c.args.kind in
+    rw (c.kind_of.ensures, to_z-of_z c.ranges.kind) (bits_is (kind_code k) c.args.held (small k) c.ranges.held.sfits)
 
-pub is-kind-spec : {M : Type 1} → statement M
-is-kind-spec = tie.close (tie.spec (λ c κs. search rules) returns)
+pub is_kind_spec : {M : Type 1} → statement M
+is_kind_spec = tie.close (tie.spec (λ c κs. search rules) returns)

@@ -4,20 +4,18 @@ use Rattle.standard.specs.Meaning.{start_rows}
 use Rattle.oamd.proofs.starts.write_starts.Statement.{statement}
 use Rattle.oamd.proofs.starts.write_starts.Tie as tie
 
-returns : tie.Need-returns
+returns : tie.Need-returns-then-same_kinds
 unfolding start_rows
 returns c =
-    let t = c.before.before.before in
-    rw (← t.before.same-kinds.ensures, t.if1.true) c.before.write-held.ensures
+    rw (← c.same_kinds.ensures, c.if-same_kinds.true) c.write_held.ensures
 
-returns-2 : tie.Need-returns-2
+returns-2 : tie.Need-returns
 unfolding start_rows
 returns-2 c =
-    let e = c.before.before.before in
-    rw (← e.before.same-kinds.ensures, e.if1.false) c.before.write-defaults.ensures
+    rw (← c.same_kinds.ensures, c.if-same_kinds.false) c.write_defaults.ensures
 
-pub write-starts-spec : {M : Type 1} → statement M
-write-starts-spec =
+pub write_starts_spec : {M : Type 1} → statement M
+write_starts_spec =
     tie.close
     (tie.spec
     (λ c κs. search rules)

@@ -7,23 +7,21 @@ use Rattle.oamd.specs.Trim.{reserved_trim, global_trim, object_trims}
 use Rattle.oamd.proofs.trim.parse_trim_element.Statement.{statement}
 use Rattle.oamd.proofs.trim.parse_trim_element.Tie as tie
 
-returns : tie.Need-returns
+returns : tie.Need-returns-then-warp_mode-gt1
 unfolding trim ◌>>=◌ ◌>>◌ pure refuse here require
 returns c =
-    let m = c.before.before.before in
-    rw (← m.before.before.read.ensures, m.warp-mode.given.1, lt-leb _ _ c.before.if1.true, c.invalid.ensures)
+    rw (← c.read.ensures, c.in-Value.is, lt-leb _ _ c.if-warp_mode-gt1.true, c.invalid.ensures)
 
-returns-2 : tie.Need-returns-2
+returns-2 : tie.Need-returns-in-Refused
 unfolding trim ◌>>=◌ here
-returns-2 c = rw (← c.before.before.before.read.ensures, c.before.refusal.given.1)
+returns-2 c = rw (← c.read.ensures, c.in-Refused.is)
 
-returns-3 : tie.Need-returns-3
+returns-3 : tie.Need-returns-else-warp_mode-gt1
 unfolding trim reserved_trim global_trim object_trims ◌>>=◌ ◌>>◌ pure refuse here require
 returns-3 c =
-    let m = c.before.before.before in
-    rw (← m.before.before.read.ensures, m.warp-mode.given.1, le-leb _ _ c.before.if1.false) c.parse-reserved-bits.ensures
+    rw (← c.read.ensures, c.in-Value.is, le-leb _ _ c.if-warp_mode-gt1.false) c.parse_reserved_bits.ensures
 
-pub parse-trim-element-spec : {M : Type 1} → statement M
-parse-trim-element-spec =
+pub parse_trim_element_spec : {M : Type 1} → statement M
+parse_trim_element_spec =
     tie.close
     (tie.spec (λ c κs. search rules) (λ c. search rules) (λ c. search rules) (λ c κs. search rules) returns (λ c κs. search rules) returns-2 returns-3)

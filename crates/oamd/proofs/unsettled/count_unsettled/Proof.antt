@@ -8,21 +8,20 @@ use Rattle.oamd.proofs.Counting.{Counting, count_none, count-row, count-all}
 use Rattle.oamd.proofs.unsettled.count_unsettled.Statement.{statement}
 use Rattle.oamd.proofs.unsettled.count_unsettled.Tie as tie
 
-abbrev invariant-loop : tie.invariant-loop
+abbrev invariant-loop : tie.invariant-loop-object
 invariant-loop blocks from count unsettled₀ object₀ unsettled object = Counting blocks from count object unsettled
 
-abbrev decreases-loop : tie.decreases-loop
+abbrev decreases-loop : tie.decreases-loop-object
 decreases-loop blocks from count unsettled₀ object₀ unsettled object = count - object
 
-loop-again : tie.Need-loop-preserved invariant-loop decreases-loop
+loop-again : tie.Need-loop-object-preserved invariant-loop decreases-loop
 unfolding row_width
 loop-again c =
-    let i = c.before.before in
-    rw (c.one-if-unsettled.ensures.0, back {z = c.before.mark-at.result} c.before.mark-at.type-inv, c.before.mark-at.ensures) (count-row i.before.loop.invariant i.loop-test.true)
+    rw (c.one_if_unsettled-unsettled.ensures.0, back {z = c.mark_at-mark.result} c.mark_at-mark.type_inv, c.mark_at-mark.ensures) (count-row c.loop-object.invariant c.loop-object-test.true)
 
-pub count-unsettled-spec : {M : Type 1} → statement M
+pub count_unsettled_spec : {M : Type 1} → statement M
 unfolding row_width object_limit
-count-unsettled-spec =
+count_unsettled_spec =
     tie.close
     (tie.spec
     invariant-loop
@@ -36,4 +35,4 @@ count-unsettled-spec =
     (λ c. omega arith)
     (λ c. omega arith)
     loop-again
-    (λ c. count-all c.before.loop.invariant c.loop-test.false))
+    (λ c. count-all c.loop-object.invariant c.loop-object-test.false))

@@ -6,11 +6,11 @@ use Rattle.rows.proofs.Tests.{bits_is}
 use Rattle.oamd.proofs.unsettled.one_if_unsettled.Statement.{statement}
 use Rattle.oamd.proofs.unsettled.one_if_unsettled.Tie as tie
 
-returns : tie.Need-returns
-returns c = (rw (← bits_is mark_limit c.before.args.mark (omega arith) c.before.ranges.mark.sfits, eq-eqb _ _ c.if1.true), omega arith)
+returns : tie.Need-returns-then-mark-eq-SETTLED
+returns c = (rw (← bits_is mark_limit c.args.mark (omega arith) c.ranges.mark.sfits, eq-eqb _ _ c.if-mark-eq-SETTLED.true), omega arith)
 
-returns-2 : tie.Need-returns-2
-returns-2 c = (rw (← bits_is mark_limit c.before.args.mark (omega arith) c.before.ranges.mark.sfits, ne_eqb _ _ c.if1.false), omega arith)
+returns-2 : tie.Need-returns-else-mark-eq-SETTLED
+returns-2 c = (rw (← bits_is mark_limit c.args.mark (omega arith) c.ranges.mark.sfits, ne_eqb _ _ c.if-mark-eq-SETTLED.false), omega arith)
 
-pub one-if-unsettled-spec : {M : Type 1} → statement M
-one-if-unsettled-spec = tie.close (tie.spec returns returns-2)
+pub one_if_unsettled_spec : {M : Type 1} → statement M
+one_if_unsettled_spec = tie.close (tie.spec returns returns-2)

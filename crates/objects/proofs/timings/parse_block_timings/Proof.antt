@@ -19,58 +19,47 @@ use Rattle.objects.proofs.Parts.{head_read}
 use Rattle.objects.proofs.timings.parse_block_timings.Statement.{statement}
 use Rattle.objects.proofs.timings.parse_block_timings.Tie as tie
 
-cut-offset : tie.Need-returns
-cut-offset c = begin (rw (head_read, ← c.before.before.read-sample-offset.ensures, c.enum_told.given.1))
+cut-offset : tie.Need-returns-in_default
+cut-offset c = begin (rw (head_read, ← c.read_sample_offset-offset.ensures, c.in_default.is))
 
-cut-count : tie.Need-returns-2
+cut-count : tie.Need-returns-in_default-coded
 cut-count c =
-    let o = c.before.before.before.before in
-    begin (rw (head_read, ← o.before.before.read-sample-offset.ensures, o.offset.given.1, ← c.before.before.read.ensures, c.enum-told2.given.1))
+    begin (rw (head_read, ← c.read_sample_offset-offset.ensures, c.in-Value.is, ← c.read-coded.ensures, c.in_default-coded.is))
 
 -- at most eight blocks
-few : (c : tie.After-known-told2) → c.before.coded.given.0.0 < block_limit
+few : (c : tie.In-Value-coded) → c.in-Value-coded.later_blocks < block_limit
 unfolding block_limit
-few c = gives said (read-lt _ _) c.before.before.before.read.ensures c.before.coded.given.1
+few c = gives said (read-lt _ _) c.read-coded.ensures c.in-Value-coded.is
 
-parse-timings-requires : tie.Need-parse-timings-requires
+parse-timings-requires : tie.Need-parse_timings-requires
 unfolding block_limit timings_length
 parse-timings-requires c κs =
-    let o = c.before.before.before.before.before.before in
-    (omega (arith, gives said offset-le o.before.before.read-sample-offset.ensures o.offset.given.1), omega (arith, few c.before))
+    (omega (arith, gives said offset-le c.read_sample_offset-offset.ensures c.in-Value.is), omega (arith, few c.before))
 
 -- what is left to read goes by what the timings gave
-at-timings : (c : tie.After-parse-timings) {r : Passed} → c.parse-timings.result ≡ r →
-    let h = c.before.before in
-    let a = h.before.before.before.before.before.before.before.before.before.before.args in
-    let t = c.parse-timings.new.1.1.1.1.1.0 in
-    Filling timings_length (map_parsed (timed_by a.timings.now) (block_timings a.payload.now a.limit.0 a.at.0)) a.timings.now
-    (and_then (leaving t r) (λ t' q. and_then (reserved a.payload.now a.limit.0 q) (λ u q. got (record { count = h.before.coded.given.0.0 + 1; table = t' }) q)))
-    t
+at-timings : (c : tie.After-parse_timings) {r : Passed} → c.parse_timings.result ≡ r →
+    Filling timings_length (map_parsed (timed_by c.args.timings.now) (block_timings c.args.payload.now c.args.limit.0 c.args.at.0)) c.args.timings.now
+    (and_then (leaving c.parse_timings.new.timings r) (λ t' q. and_then (reserved c.args.payload.now c.args.limit.0 q) (λ u q. got (record { count = c.in-Value-coded.later_blocks + 1; table = t' }) q)))
+    c.parse_timings.new.timings
 unfolding block_limit timings_length
 at-timings c e =
-    let h = c.before.before in
-    let o = h.before.before.before.before.before in
-    let a = o.before.before.before.before.before.args in
-    let n = h.before.coded.given.0 in
-    let stored = map_parsed (λ ts. over (timing_numbers ts) a.timings.now) (times (n.0 + 1) (timing o.offset.given.0.0) a.payload.now a.limit.0 n.1.0.0) in
-    on {m = stored} (leaving _) _ (begin (rw (head_read, ← o.before.before.read-sample-offset.ensures, o.offset.given.1, ← h.before.before.before.read.ensures, h.before.coded.given.1))) c.parse-timings.ensures (omega (arith, few h)) e
+    let stored = map_parsed (λ ts. over (timing_numbers ts) c.args.timings.now) (times (c.in-Value-coded.later_blocks + 1) (timing c.in-Value.sample_offset) c.args.payload.now c.args.limit.0 c.in-Value-coded.at.0) in
+    on {m = stored} (leaving _) _ (begin (rw (head_read, ← c.read_sample_offset-offset.ensures, c.in-Value.is, ← c.read-coded.ensures, c.in-Value-coded.is))) c.parse_timings.ensures (omega (arith, few c.before.before)) e
 
-cut-timings : tie.Need-returns-3
-cut-timings c = at-timings c.before.before.before.before.before c.before.refusal.given.1
+cut-timings : tie.Need-returns-in-Refused
+cut-timings c = at-timings c.before.before.before c.in-Refused.is
 
-cut-reserved : tie.Need-returns-4
+cut-reserved : tie.Need-returns-in-Refused-skip_reserved
 cut-reserved c =
-    let n = c.before.before.before.before.before in
-    to (at-timings n.before.before.before.before n.next.given.1) (rw (← c.before.before.before.skip-reserved.ensures, c.before.refusal2.given.1))
+    to (at-timings c.before.before.before.before.before c.in-To.is) (rw (← c.skip_reserved.ensures, c.in-Refused-skip_reserved.is))
 
-all : tie.Need-returns-5
+all : tie.Need-returns-in-To-skip_reserved
 all c =
-    let n = c.before.before.before.before.before in
-    to (at-timings n.before.before.before.before n.next.given.1) (rw (← c.before.before.before.skip-reserved.ensures, c.before.end.given.1))
+    to (at-timings c.before.before.before.before.before c.in-To.is) (rw (← c.skip_reserved.ensures, c.in-To-skip_reserved.is))
 
-pub parse-block-timings-spec : {M : Type 1} → statement M
+pub parse_block_timings_spec : {M : Type 1} → statement M
 unfolding block_limit
-parse-block-timings-spec =
+parse_block_timings_spec =
     tie.close
     (tie.spec
     (λ c κs. search rules)

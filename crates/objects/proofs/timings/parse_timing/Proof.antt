@@ -13,40 +13,37 @@ use Rattle.objects.proofs.Timed.{put_two, behind-two}
 use Rattle.objects.proofs.timings.parse_timing.Statement.{statement}
 use Rattle.objects.proofs.timings.parse_timing.Tie as tie
 
-cut-factor : tie.Need-returns
+cut-factor : tie.Need-returns-in-Refused
 unfolding timing ◌>>=◌
 cut-factor c =
-    record { same = rw (← c.before.before.before.read.ensures, c.before.refusal.given.1); long = refl; rest = refl }
+    record { same = rw (← c.read.ensures, c.in-Refused.is); long = refl; rest = refl }
 
-cut-ramp : tie.Need-returns-2
+cut-ramp : tie.Need-returns-in-Refused-read_ramp_duration
 unfolding timing ◌>>=◌
 cut-ramp c =
-    let f = c.before.before.before.before.before in
     record {
-      same = rw (← f.before.before.read.ensures, f.factor.given.1, ← c.before.before.before.read-ramp-duration.ensures, c.before.refusal2.given.1);
+      same = rw (← c.read.ensures, c.in-Value.is, ← c.read_ramp_duration.ensures, c.in-Refused-read_ramp_duration.is);
       long = refl;
       rest = refl;
     }
 
 -- what is read fits u16
-small : (c : tie.After-known-told4) →
-    (c.before.before.before.before.before.factor.given.0.0 < 64) × (c.before.ramp-duration.given.0.0 ≤ 2048)
+small : (c : tie.In-Value-read_ramp_duration) →
+    (c.in-Value.factor < 64) × (c.in-Value-read_ramp_duration.ramp_duration ≤ 2048)
 small c =
-    let f = c.before.before.before.before.before in
-    (gives said (read-lt _ _) f.before.before.read.ensures f.factor.given.1, gives said ramp-le c.before.before.before.read-ramp-duration.ensures c.before.ramp-duration.given.1)
+    (gives said (read-lt _ _) c.read.ensures c.in-Value.is, gives said ramp-le c.read_ramp_duration.ensures c.in-Value-read_ramp_duration.is)
 
-stored : tie.Need-returns-3
+stored : tie.Need-returns-in-Value-read_ramp_duration
 unfolding timing ◌>>=◌ pure
 stored c =
-    let f = c.before.before.before.before.before in
     record {
-      same = rw (← f.before.before.read.ensures, f.factor.given.1, ← c.before.before.before.read-ramp-duration.ensures, c.before.ramp-duration.given.1, ← put_two);
+      same = rw (← c.read.ensures, c.in-Value.is, ← c.read_ramp_duration.ensures, c.in-Value-read_ramp_duration.is, ← put_two);
       long = simp length-set;
       rest = simp behind-two;
     }
 
-pub parse-timing-spec : {M : Type 1} → statement M
-parse-timing-spec =
+pub parse_timing_spec : {M : Type 1} → statement M
+parse_timing_spec =
     tie.close
     (tie.spec
     (λ c κs. search rules)

@@ -13,33 +13,29 @@ use Rattle.objects.proofs.Timed.{storing, turn, no_more, all-stored}
 use Rattle.objects.proofs.timings.parse_timings.Statement.{statement}
 use Rattle.objects.proofs.timings.parse_timings.Tie as tie
 
-abbrev invariant-loop : tie.invariant-loop
+abbrev invariant-loop : tie.invariant-loop-block
 invariant-loop payload limit offset n timings₀ place₀ block₀ timings place block =
     (block ≤ n) × Filling (2 * n) (map_parsed (λ ts. over (timing_numbers ts) timings₀) (times n (timing offset) payload limit.0 place₀.0)) timings₀ (storing offset payload limit.0 (n - block) block timings place.0) timings
 
-abbrev decreases-loop : tie.decreases-loop
+abbrev decreases-loop : tie.decreases-loop-block
 decreases-loop payload limit offset n timings₀ place₀ block₀ timings place block = n - block
 
-loop-holds : tie.Need-loop-init invariant-loop decreases-loop
-loop-holds c = (omega arith, begin (all-stored _ _ _ _ _ _ c.before.before.requires.1))
+loop-holds : tie.Need-loop-block-init invariant-loop decreases-loop
+loop-holds c = (omega arith, begin (all-stored _ _ _ _ _ _ c.requires.1))
 
-returns : tie.Need-returns invariant-loop decreases-loop
+returns : tie.Need-returns-in-Refused invariant-loop decreases-loop
 returns c =
-    let r = c.before.before.before.before.before in
-    let l = r.before.before in
-    turn _ _ _ _ _ _ l.before.loop.invariant.1 r.parse-timing.ensures l.loop-test.true c.before.refusal.given.1
+    turn _ _ _ _ _ _ c.loop-block.invariant.1 c.parse_timing.ensures c.loop-block-test.true c.in-Refused.is
 
-loop-again : tie.Need-loop-preserved invariant-loop decreases-loop
+loop-again : tie.Need-loop-block-preserved invariant-loop decreases-loop
 loop-again c =
-    let r = c.before.before.before.before.before in
-    let l = r.before.before in
-    (omega arith, turn _ _ _ _ _ _ l.before.loop.invariant.1 r.parse-timing.ensures l.loop-test.true c.before.next.given.1)
+    (omega arith, turn _ _ _ _ _ _ c.loop-block.invariant.1 c.parse_timing.ensures c.loop-block-test.true c.in-To.is)
 
-returns-2 : tie.Need-returns-2 invariant-loop decreases-loop
-returns-2 c = to c.before.loop.invariant.1 (no_more _ _ _ _ _ _ _ c.loop-test.false)
+returns-2 : tie.Need-returns invariant-loop decreases-loop
+returns-2 c = to c.loop-block.invariant.1 (no_more _ _ _ _ _ _ _ c.loop-block-test.false)
 
-pub parse-timings-spec : {M : Type 1} → statement M
-parse-timings-spec =
+pub parse_timings_spec : {M : Type 1} → statement M
+parse_timings_spec =
     tie.close
     (tie.spec
     invariant-loop
@@ -48,11 +44,11 @@ parse-timings-spec =
     (λ c. omega arith)
     (λ c κs. search rules)
     (λ c. search rules)
-    (λ c. c.before.before.before.before.before.parse-timing.ensures.long ∙ c.before.before.before.before.before.before.before.before.loop.invariant.1.long)
+    (λ c. c.parse_timing.ensures.long ∙ c.loop-block.invariant.1.long)
     returns
     (λ c. search rules)
     (λ c. omega arith)
     (λ c. omega arith)
     loop-again
-    (λ c. c.before.loop.invariant.1.long)
+    (λ c. c.loop-block.invariant.1.long)
     returns-2)

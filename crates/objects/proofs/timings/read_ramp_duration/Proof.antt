@@ -16,68 +16,62 @@ use Rattle.standard.specs.Syntax.{ramp_durations, ramp}
 use Rattle.objects.proofs.timings.read_ramp_duration.Statement.{statement}
 use Rattle.objects.proofs.timings.read_ramp_duration.Tie as tie
 
-cut : tie.Need-returns
+cut : tie.Need-returns-in_default
 unfolding ramp ◌>>=◌
-cut c = rw (← c.before.before.read.ensures, c.enum_told.given.1)
+cut c = rw (← c.read-head.ensures, c.in_default.is)
 
-index-small : tie.Need-array-read-t24
-index-small c = gives said (read-lt _ _) c.before.before.before.read3.ensures c.before.index.given.1
+index-small : tie.Need-bounds-index
+index-small c = gives said (read-lt _ _) c.read-in-Is.ensures c.in-Value-read.is
 
-none : tie.Need-returns-3
+none : tie.Need-returns-in-0
 unfolding ramp ◌>>=◌ pure
-none c = rw (← c.before.before.before.before.read.ensures, c.before.before.head.given.1, c.match2.keys1)
+none c = rw (← c.read-head.ensures, c.in-Value.is, c.in-0.is)
 
-first : tie.Need-returns-4
+first : tie.Need-returns-in-1
 unfolding ramp ◌>>=◌ pure
-first c = rw (← c.before.before.before.before.read.ensures, c.before.before.head.given.1, c.match2.keys2)
+first c = rw (← c.read-head.ensures, c.in-Value.is, c.in-1.is)
 
-second : tie.Need-returns-5
+second : tie.Need-returns-in-2
 unfolding ramp ◌>>=◌ pure
-second c = rw (← c.before.before.before.before.read.ensures, c.before.before.head.given.1, c.match2.keys3)
+second c = rw (← c.read-head.ensures, c.in-Value.is, c.in-2.is)
 
 -- code 3: what the flag chooses
 after_flag : List ℕ → ℕ → Bool → ℕ → Parsed ℕ
 after_flag s e indexed q =
     cond indexed (map_p (λ i. get_or ramp_durations i 0) (read 4 context.ramp-duration-index)) (read 11 context.ramp-duration) s e q
 
-at_flag : (c : tie.After-read-flag) →
-    let a = c.before.before.before.before.before.before.before.args in
-    ramp a.payload.now a.limit.0 a.at.0 ≡ and_then (said_flag c.read-flag.result) (after_flag a.payload.now a.limit.0)
+at_flag : (c : tie.After-read_flag) →
+    ramp c.args.payload.now c.args.limit.0 c.args.at.0 ≡ and_then (said_flag c.read_flag.result) (after_flag c.args.payload.now c.args.limit.0)
 unfolding ramp after_flag ◌>>=◌
 at_flag c =
-    let h = c.before.before.before.head.given in
-    let r = c.before.before.before.before.before.read.ensures in
-    let l : h.0.0 < 4 = gives said (read-lt _ _) r h.1 in
-    let k : h.0.0 ≡ 3 = omega arith in
-    rw (← r, h.1, k, c.read-flag.ensures)
+    let l : c.in-Value.code < 4 = gives said (read-lt _ _) c.read-head.ensures c.in-Value.is in
+    let k : c.in-Value.code ≡ 3 = omega arith in
+    rw (← c.read-head.ensures, c.in-Value.is, k, c.read_flag.ensures)
 
-cut-flag : tie.Need-returns-6
-cut-flag c = rw (at_flag c.before.before.before, c.before.refusal.given.1)
+cut-flag : tie.Need-returns-in-Refused
+cut-flag c = rw (at_flag c.before, c.in-Refused.is)
 
-direct : tie.Need-returns-2
+direct : tie.Need-returns-then-not-indexed
 unfolding after_flag
 direct c =
-    let f = c.before.before.before.indexed.given in
-    rw (at_flag c.before.before.before.before.before, f.1, not-true f.0.0 c.before.if1.true, c.read2.ensures)
+    rw (at_flag c.before.before.before, c.in-Is.is, not-true c.in-Is.indexed c.if-not-indexed.true-raw, c.read.ensures)
 
 -- the flag is set
-at-index : (c : tie.After-read3) →
-    let a = c.before.before.before.before.before.before.before.before.before.before.before.before.args in
-    ramp a.payload.now a.limit.0 a.at.0 ≡ map_parsed (λ i. get_or ramp_durations i 0) (said c.read3.result)
+at-index : (c : tie.After-read-in-Is) →
+    ramp c.args.payload.now c.args.limit.0 c.args.at.0 ≡ map_parsed (λ i. get_or ramp_durations i 0) (said c.read-in-Is.result)
 unfolding after_flag map_p
 at-index c =
-    let f = c.before.before.before.indexed.given in
-    rw (at_flag c.before.before.before.before.before, f.1, not-false f.0.0 c.before.if1.false, c.read3.ensures)
+    rw (at_flag c.before.before.before, c.in-Is.is, not-false c.in-Is.indexed c.if-not-indexed.false-raw, c.read-in-Is.ensures)
 
-cut-index : tie.Need-returns-7
-cut-index c = rw (at-index c.before.before.before, c.before.refusal2.given.1)
+cut-index : tie.Need-returns-in-Refused-read
+cut-index c = rw (at-index c.before, c.in-Refused-read.is)
 
-indexed : tie.Need-returns-8
+indexed : tie.Need-returns-in-Value-read
 unfolding ramp_durations
-indexed c = rw (at-index c.before.before.before, c.before.index.given.1)
+indexed c = rw (at-index c.before.before.before, c.in-Value-read.is)
 
-pub read-ramp-duration-spec : {M : Type 1} → statement M
-read-ramp-duration-spec =
+pub read_ramp_duration_spec : {M : Type 1} → statement M
+read_ramp_duration_spec =
     tie.close
     (tie.spec
     (λ c κs. search rules)

@@ -10,46 +10,41 @@ use Rattle.standard.specs.Syntax.{sample_offsets, sample_offset}
 use Rattle.objects.proofs.timings.read_sample_offset.Statement.{statement}
 use Rattle.objects.proofs.timings.read_sample_offset.Tie as tie
 
-cut : tie.Need-returns
+cut : tie.Need-returns-in_default
 unfolding sample_offset ◌>>=◌ here
-cut c = rw (← c.before.before.read.ensures, c.enum_told.given.1)
+cut c = rw (← c.read-head.ensures, c.in_default.is)
 
-index-small : tie.Need-array-read-t18
-index-small c = gives said (read-lt _ _) c.before.before.before.read2.ensures c.before.index.given.1
+index-small : tie.Need-bounds-index
+index-small c = gives said (read-lt _ _) c.read.ensures c.in-Value-read.is
 
-none : tie.Need-returns-2
+none : tie.Need-returns-in-0
 unfolding sample_offset ◌>>=◌ here pure
-none c = rw (← c.before.before.before.before.read.ensures, c.before.before.head.given.1, c.match2.keys1)
+none c = rw (← c.read-head.ensures, c.in-Value.is, c.in-0.is)
 
-cut-index : tie.Need-returns-3
+cut-index : tie.Need-returns-in-Refused
 unfolding sample_offset ◌>>=◌ here map_p
 cut-index c =
-    let m = c.before.before.before.before in
-    rw (← m.before.before.before.before.read.ensures, m.before.before.head.given.1, m.match2.keys2, ← c.before.before.before.read2.ensures, c.before.refusal.given.1)
+    rw (← c.read-head.ensures, c.in-Value.is, c.in-1.is, ← c.read.ensures, c.in-Refused.is)
 
-indexed : tie.Need-returns-4
+indexed : tie.Need-returns-in-Value-read
 unfolding sample_offset sample_offsets ◌>>=◌ here map_p
 indexed c =
-    let m = c.before.before.before.before in
-    rw (← m.before.before.before.before.read.ensures, m.before.before.head.given.1, m.match2.keys2, ← c.before.before.before.read2.ensures, c.before.index.given.1)
+    rw (← c.read-head.ensures, c.in-Value.is, c.in-1.is, ← c.read.ensures, c.in-Value-read.is)
 
-given : tie.Need-returns-5
+given : tie.Need-returns-in-2
 unfolding sample_offset ◌>>=◌ here
 given c =
-    let m = c.before in
-    rw (← m.before.before.before.before.read.ensures, m.before.before.head.given.1, m.match2.keys3, c.read3.ensures)
+    rw (← c.read-head.ensures, c.in-Value.is, c.in-2.is, c.read-in-2.ensures)
 
-invalid-code : tie.Need-returns-6
+invalid-code : tie.Need-returns-in_default-code
 unfolding sample_offset ◌>>=◌ here refuse
 invalid-code c =
-    let m = c.before in
-    let h = m.before.before.head.given in
-    let l : h.0.0 < 4 = gives said (read-lt _ _) m.before.before.before.before.read.ensures h.1 in
-    let k : h.0.0 ≡ 3 = omega arith in
-    rw (← m.before.before.before.before.read.ensures, h.1, k, c.invalid.ensures)
+    let l : c.in-Value.code < 4 = gives said (read-lt _ _) c.read-head.ensures c.in-Value.is in
+    let k : c.in-Value.code ≡ 3 = omega arith in
+    rw (← c.read-head.ensures, c.in-Value.is, k, c.invalid.ensures)
 
-pub read-sample-offset-spec : {M : Type 1} → statement M
-read-sample-offset-spec =
+pub read_sample_offset_spec : {M : Type 1} → statement M
+read_sample_offset_spec =
     tie.close
     (tie.spec
     (λ c κs. search rules)

@@ -10,42 +10,37 @@ use Rattle.standard.specs.Syntax.{reserved}
 use Rattle.objects.proofs.timings.skip_reserved.Statement.{statement}
 use Rattle.objects.proofs.timings.skip_reserved.Tie as tie
 
-cut-flag : tie.Need-returns-3
+cut-flag : tie.Need-returns-in-Refused
 unfolding reserved ◌>>=◌
-cut-flag c = rw (← c.before.before.before.read-flag.ensures, c.before.refusal.given.1)
+cut-flag c = rw (← c.read_flag.ensures, c.in-Refused.is)
 
-absent : tie.Need-returns
+absent : tie.Need-returns-then-not_present
 unfolding reserved ◌>>=◌ pure
-absent c = rw (← c.before.before.before.before.read-flag.ensures, c.before.before.not-present.given.1, c.if1.true)
+absent c = rw (← c.read_flag.ensures, c.in-Is.is, c.if-not_present.true)
 
 -- the five bits are there to be read
 at_bits : (c : tie.After-read) →
-    let a = c.before.before.before.before.before.before.before.args in
-    let next = c.before.before.before.not-present.given.0.1.0.0 in
-    reserved a.payload.now a.limit.0 a.at.0
-    ≡ and_then (said c.read.result) (λ v q. require (eqb v 0) (invalid context.object-element-reserved-data next) a.payload.now a.limit.0 q)
+    reserved c.args.payload.now c.args.limit.0 c.args.at.0
+    ≡ and_then (said c.read.result) (λ v q. require (eqb v 0) (invalid context.object-element-reserved-data c.in-Is.next.0) c.args.payload.now c.args.limit.0 q)
 unfolding reserved ◌>>=◌ here
 at_bits c =
-    let f = c.before.before.before in
-    rw (← f.before.before.read-flag.ensures, f.not-present.given.1, c.before.if1.false, c.read.ensures)
+    rw (← c.read_flag.ensures, c.in-Is.is, c.if-not_present.false, c.read.ensures)
 
-cut-bits : tie.Need-returns-4
-cut-bits c = rw (at_bits c.before.before.before, c.before.refusal2.given.1)
+cut-bits : tie.Need-returns-in-Refused-read
+cut-bits c = rw (at_bits c.before, c.in-Refused-read.is)
 
-not-zero : tie.Need-returns-2
+not-zero : tie.Need-returns-then-reserved-ne0
 unfolding require refuse
 not-zero c =
-    let b = c.before.before.before in
-    rw (c.invalid.ensures, at_bits b.before.before, b.reserved.given.1, ne_eqb _ _ c.before.if2.true)
+    rw (c.invalid.ensures, at_bits c.before.before.before, c.in-Value.is, ne_eqb _ _ c.if-reserved-ne0.true)
 
-zero : tie.Need-returns-5
+zero : tie.Need-returns-else-reserved-ne0
 unfolding require pure
 zero c =
-    let b = c.before.before in
-    rw (at_bits b.before.before, b.reserved.given.1, eq-eqb _ _ c.if2.false)
+    rw (at_bits c.before.before, c.in-Value.is, eq-eqb _ _ c.if-reserved-ne0.false)
 
-pub skip-reserved-spec : {M : Type 1} → statement M
-skip-reserved-spec =
+pub skip_reserved_spec : {M : Type 1} → statement M
+skip_reserved_spec =
     tie.close
     (tie.spec
     (λ c κs. search rules)

@@ -9,35 +9,31 @@ use Rattle.objects.proofs.Places.{next-to}
 use Rattle.objects.proofs.walk.gain_before.Statement.{statement}
 use Rattle.objects.proofs.walk.gain_before.Tie as tie
 
-first : tie.Need-returns
+first : tie.Need-returns-then-column-eq0
 unfolding gain_before
-first c = rw c.if1.true
+first c = rw c.if-column-eq0.true
 
 -- the row before ends where this one begins
-beside : (c : tie.Else1) → let k = c.before.before.args.column in
-    place k.objects c.before.before.args.block (k.object - 1) + row_width ≡ place k.objects c.before.before.args.block k.object
+beside : (c : tie.Else-column-eq0) → place c.args.column.objects c.args.block (c.args.column.object - 1) + row_width ≡ place c.args.column.objects c.args.block c.args.column.object
 beside c = next-to _ _ _ (omega arith)
 
-row-place-requires : tie.Need-row-place-requires
+row-place-requires : tie.Need-row_place-requires
 row-place-requires c κs = omega (arith, beside c)
 
-later : tie.Need-returns-2
+later : tie.Need-returns
 unfolding gain_before row_width
 later c =
-    let e = c.before.before in
-    let a = e.before.before.args in
-    let o = a.column.object in
-    let k : o ≡ suc (o - 1) = omega arith in
-    let at : c.before.row-place.result - row_width ≡ place a.column.objects a.block (o - 1) = omega (arith, c.before.row-place.ensures, beside e) in
-    rw (back {z = c.gain-at.result} c.gain-at.type-inv, c.gain-at.ensures, k, at)
+    let k : c.args.column.object ≡ suc (c.args.column.object - 1) = omega arith in
+    let at : c.row_place.result - row_width ≡ place c.args.column.objects c.args.block (c.args.column.object - 1) = omega (arith, c.row_place.ensures, beside c.before.before) in
+    rw (back {z = c.gain_at.result} c.gain_at.type_inv, c.gain_at.ensures, k, at)
 
-pub gain-before-spec : {M : Type 1} → statement M
+pub gain_before_spec : {M : Type 1} → statement M
 unfolding row_width
-gain-before-spec =
+gain_before_spec =
     tie.close
     (tie.spec
     first
     row-place-requires
-    (λ c. omega (arith, c.row-place.ensures, beside c.before))
-    (λ c κs. omega (arith, c.row-place.ensures, beside c.before))
+    (λ c. omega (arith, c.row_place.ensures, beside c.before))
+    (λ c κs. omega (arith, c.row_place.ensures, beside c.before))
     later)

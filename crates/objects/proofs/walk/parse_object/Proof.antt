@@ -19,86 +19,79 @@ use Rattle.objects.proofs.Turns.{blocks-done, block_read, put-within}
 use Rattle.objects.proofs.walk.parse_object.Statement.{statement}
 use Rattle.objects.proofs.walk.parse_object.Tie as tie
 
-abbrev invariant-loop : tie.invariant-loop
+abbrev invariant-loop : tie.invariant-loop-block
 invariant-loop payload limit column blocks₀ row₀ place₀ block₀ end blocks row place block =
     let n = column.objects in
     let m = column.blocks in
     (block ≤ m) × Filling (m * n * row_width) (column_from n column.object (kind_of column.kind) m 0 (row_said row₀) blocks₀ payload limit.0 place₀.0) blocks₀ (column_from n column.object (kind_of column.kind) (m - block) block (row_said row) blocks payload limit.0 place.0) blocks
 
-abbrev decreases-loop : tie.decreases-loop
+abbrev decreases-loop : tie.decreases-loop-block
 decreases-loop payload limit column blocks₀ row₀ place₀ block₀ end blocks row place block = column.blocks - block
 
-loop-holds : tie.Need-loop-init invariant-loop decreases-loop
+loop-holds : tie.Need-loop-block-init invariant-loop decreases-loop
 loop-holds c =
-    let m = c.before.args.column.blocks in
-    let k : m - 0 ≡ m = omega arith in
+    let k : c.args.column.blocks - 0 ≡ c.args.column.blocks = omega arith in
     (omega arith, begin (rw k))
 
 -- back from what was done with the words, from their reading, and from a turn of the loop
 
-abbrev words : tie.After-apply invariant-loop decreases-loop → tie.After-next invariant-loop decreases-loop
-words c = c.before.before.before.before.before
+abbrev words : tie.After-apply-row invariant-loop decreases-loop → tie.In-Words invariant-loop decreases-loop
+words c = c.before.before.before
 
-abbrev turn : tie.After-read-update invariant-loop decreases-loop → tie.In-loop invariant-loop decreases-loop
+abbrev turn : tie.After-read_update invariant-loop decreases-loop → tie.In-loop-block invariant-loop decreases-loop
 turn c = c.before.before
 
-abbrev entry : tie.In-loop invariant-loop decreases-loop → tie.Start invariant-loop decreases-loop
+abbrev entry : tie.In-loop-block invariant-loop decreases-loop → tie.Start invariant-loop decreases-loop
 entry c = c.before.before.before
 
 -- the row of this block fits the table
-room : (c : tie.In-loop invariant-loop decreases-loop) →
-    let k = (entry c).args.column in
-    place k.objects c.before.loop.block k.object + row_width ≤ k.blocks * k.objects * row_width
-room c = within _ _ _ _ c.loop-test.true (entry c).requires.0
+room : (c : tie.In-loop-block invariant-loop decreases-loop) →
+    place (entry c).args.column.objects c.loop-block.block (entry c).args.column.object + row_width ≤ (entry c).args.column.blocks * (entry c).args.column.objects * row_width
+room c = within _ _ _ _ c.loop-block-test.true (entry c).requires.0
 
 -- the kind is handed on as its bits
-kind : (c : tie.After-struct-told invariant-loop decreases-loop) → let k = (entry c.before).args.column.kind in to_z w16 (of_z w16 k) ≡ k
-kind c = back {z = (entry c.before).args.column.kind} c.struct_told.given.0.1
+kind : (c : tie.After-struct_told-1 invariant-loop decreases-loop) → to_z w16 (of_z w16 (entry c.before).args.column.kind) ≡ (entry c.before).args.column.kind
+kind c = back {z = (entry c.before).args.column.kind} c.struct_told-1.given.0.1
 
 -- what the words do
-row : (c : tie.After-apply invariant-loop decreases-loop) →
-    let l = turn (words c).before.before in
-    let k = (entry l).args.column in
-    row_said c.apply.result ≡ updated (kind_of k.kind) (gain_before k.objects l.before.loop.block k.object l.before.loop.blocks) (update_said (words c).next.given.0.1.0) (row_said l.before.loop.row)
+row : (c : tie.After-apply-row invariant-loop decreases-loop) →
+    let l = turn (words c).before in
+    row_said c.apply-row.result ≡ updated (kind_of (entry l).args.column.kind) (gain_before (entry l).args.column.objects l.loop-block.block (entry l).args.column.object l.loop-block.blocks) (update_said (words c).in-Words.words) (row_said l.loop-block.row)
 row c =
-    let g = c.before.before in
-    rw (kind (words c).before.before.before, back {z = g.gain-before.result} g.gain-before.type-inv ∙ g.gain-before.ensures) at c.apply.ensures
+    rw (kind (words c).before.before, back {z = c.gain_before-gain.result} c.gain_before-gain.type_inv ∙ c.gain_before-gain.ensures) at c.apply-row.ensures
 
-returns : tie.Need-returns invariant-loop decreases-loop
+returns : tie.Need-returns-in-Refused invariant-loop decreases-loop
 returns c =
-    let r = c.before.before.before in
-    let l = turn r in
-    block_read _ _ _ _ _ _ _ _ _ l.before.loop.inv.1 l.loop-test.taken r.read-update.ensures (ap kind_of (kind r.before)) c.before.refusal.given.1
+    let l = turn c.before in
+    block_read _ _ _ _ _ _ _ _ _ l.loop-block.invariant.1 l.loop-block-test.true c.read_update.ensures (ap kind_of (kind c.before.before)) c.in-Refused.is
 
-row-place-requires : tie.Need-row-place-requires invariant-loop decreases-loop
-row-place-requires c κs = let l = turn (words c.before).before.before in omega (arith, room l, (entry l).good)
+row-place-requires : tie.Need-row_place-requires invariant-loop decreases-loop
+row-place-requires c κs = let l = turn (words c.before).before in omega (arith, room l, (entry l).well_formed)
 
-put-row-requires : tie.Need-put-row-requires invariant-loop decreases-loop
+put-row-requires : tie.Need-put_row-requires invariant-loop decreases-loop
 put-row-requires c κs =
-    let l = turn (words c.before.before).before.before in
-    omega (arith, c.row-place.ensures, room l, l.before.loop.inv.1.long)
+    let l = turn (words c.before.before).before in
+    omega (arith, c.row_place.ensures, room l, l.loop-block.invariant.1.long)
 
-add-block : tie.Need-overflow-add-block invariant-loop decreases-loop
+add-block : tie.Need-overflow_step-block invariant-loop decreases-loop
 add-block c =
-    let l = turn (words c.before.before.before.before).before.before in
-    omega (arith, l.loop-test.taken, (entry l).good)
+    let l = turn (words c.before.before.before.before).before in
+    omega (arith, l.loop-block-test.true, (entry l).well_formed)
 
-loop-again : tie.Need-loop-preserved invariant-loop decreases-loop
+loop-again : tie.Need-loop-block-preserved invariant-loop decreases-loop
 loop-again c =
-    let a = c.before.before.before.before in
-    let r = (words a).before.before in
-    let l = turn r in
-    (omega arith, rw (c.before.put-row.ensures, c.before.before.row-place.ensures, row a) (put-within _ _ (block_read _ _ _ _ _ _ _ _ _ l.before.loop.inv.1 l.loop-test.taken r.read-update.ensures (ap kind_of (kind r.before)) (words a).next.given.1) (room l)))
+    let l = turn (words c.before.before.before.before).before in
+    (omega arith, rw (c.put_row.ensures, c.row_place.ensures, row c.before.before.before.before) (put-within _ _ (block_read _ _ _ _ _ _ _ _ _ l.loop-block.invariant.1 l.loop-block-test.true (words c.before.before.before.before).read_update.ensures (ap kind_of (kind (words c.before.before.before.before).before.before)) (words c.before.before.before.before).in-Words.is) (room l)))
 
-returns-2 : tie.Need-returns-2 invariant-loop decreases-loop
-returns-2 c = to c.before.loop.invariant.1 (blocks-done _ _ _ _ _ _ _ _ _ _ c.loop-test.false)
+returns-2 : tie.Need-returns invariant-loop decreases-loop
+returns-2 c = to c.loop-block.invariant.1 (blocks-done _ _ _ _ _ _ _ _ _ _ c.loop-block-test.false)
 
-pub parse-object-spec : {M : Type 1} → statement M
-parse-object-spec =
+pub parse_object_spec : {M : Type 1} → statement M
+parse_object_spec =
     tie.close
     (tie.spec
     invariant-loop decreases-loop loop-holds (λ c κs. search rules) (λ c. search rules)
-    (λ c. (turn c.before.before.before).before.loop.inv.1.long) returns (λ c. search rules)
-    (λ c κs. let l = turn c.before.before.before.before in omega (arith, room l, l.before.loop.inv.1.long))
+    (λ c. (turn c.before).loop-block.invariant.1.long) returns (λ c. search rules)
+    (λ c κs. let l = turn c.before in omega (arith, room l, l.loop-block.invariant.1.long))
     (λ c κs. search rules) row-place-requires put-row-requires add-block (λ c. omega arith) loop-again
-    (λ c. c.before.loop.invariant.1.long) returns-2)
+    (λ c. c.loop-block.invariant.1.long) returns-2)

@@ -17,55 +17,50 @@ use Rattle.objects.proofs.Turns.{objects_left, objects-begun, objects-done, obje
 use Rattle.objects.proofs.walk.parse_objects.Statement.{statement}
 use Rattle.objects.proofs.walk.parse_objects.Tie as tie
 
-abbrev invariant-loop : tie.invariant-loop
+abbrev invariant-loop : tie.invariant-loop-object
 invariant-loop payload limit kinds m start blocks₀ place₀ object₀ end blocks place object =
     (object ≤ length kinds) × Filling (m * length kinds * row_width) (objects_from (length kinds) m start 0 (map kind_of kinds) blocks₀ payload limit.0 place₀.0) blocks₀ (objects_left m kinds start payload limit.0 object blocks place.0) blocks
 
-abbrev decreases-loop : tie.decreases-loop
+abbrev decreases-loop : tie.decreases-loop-object
 decreases-loop payload limit kinds m start blocks₀ place₀ object₀ end blocks place object = length kinds - object
 
 -- back from an object that was read
 
-abbrev turn : tie.After-parse-object invariant-loop decreases-loop → tie.In-loop invariant-loop decreases-loop
+abbrev turn : tie.After-parse_object invariant-loop decreases-loop → tie.In-loop-object invariant-loop decreases-loop
 turn c = c.before.before.before.before
 
-abbrev entry : tie.In-loop invariant-loop decreases-loop → tie.Start invariant-loop decreases-loop
+abbrev entry : tie.In-loop-object invariant-loop decreases-loop → tie.Start invariant-loop decreases-loop
 entry c = c.before.before.before
 
 -- what the call read is the next object
-object-said : (c : tie.After-parse-object invariant-loop decreases-loop) →
-    let a = (entry (turn c)).args in
-    let l = (turn c).before.loop in
-    let n = length a.kinds.now in
-    Fills (a.block-count * n * row_width) (column_from n l.object (kind_of (get_or a.kinds.now l.object (pos 0))) a.block-count 0 (row_at a.start.now (l.object * row_width)) l.blocks a.payload.now a.limit.0 l.place.0) l.blocks c.parse-object.result c.parse-object.new.1.1.1.1.1.0
+object-said : (c : tie.After-parse_object invariant-loop decreases-loop) →
+    let n = length (entry (turn c)).args.kinds.now in
+    Fills ((entry (turn c)).args.block_count * n * row_width) (column_from n (turn c).loop-object.object (kind_of (get_or (entry (turn c)).args.kinds.now (turn c).loop-object.object (pos 0))) (entry (turn c)).args.block_count 0 (row_at (entry (turn c)).args.start.now ((turn c).loop-object.object * row_width)) (turn c).loop-object.blocks (entry (turn c)).args.payload.now (entry (turn c)).args.limit.0 (turn c).loop-object.place.0) (turn c).loop-object.blocks c.parse_object.result c.parse_object.new.blocks
 unfolding row_width
 object-said c =
     let l = turn c in
-    rw (← c.before.before.row_at.ensures, ← back {z = get_or (entry l).args.kinds.now l.before.loop.object (pos 0)} c.before.before.before.kind.given) c.parse-object.ensures
+    rw (← c.row_at-first.ensures, ← back {z = get_or (entry l).args.kinds.now l.loop-object.object (pos 0)} c.kind-1.given) c.parse_object.ensures
 
-returns : tie.Need-returns invariant-loop decreases-loop
+returns : tie.Need-returns-in-Refused invariant-loop decreases-loop
 returns c =
-    let r = c.before.before.before.before in
-    let l = turn r in
-    object-read _ _ _ _ _ _ _ _ l.before.loop.inv.1 l.loop-test.taken (object-said r) c.before.refusal.given.1
+    let l = turn c.before.before in
+    object-read _ _ _ _ _ _ _ _ l.loop-object.invariant.1 l.loop-object-test.true (object-said c.before.before) c.in-Refused.is
 
-loop-again : tie.Need-loop-preserved invariant-loop decreases-loop
+loop-again : tie.Need-loop-object-preserved invariant-loop decreases-loop
 loop-again c =
-    let r = c.before.before.before.before in
-    let l = turn r in
-    (omega arith, object-read _ _ _ _ _ _ _ _ l.before.loop.inv.1 l.loop-test.taken (object-said r) c.before.next.given.1)
+    let l = turn c.before.before in
+    (omega arith, object-read _ _ _ _ _ _ _ _ l.loop-object.invariant.1 l.loop-object-test.true (object-said c.before.before) c.in-To.is)
 
-returns-2 : tie.Need-returns-2 invariant-loop decreases-loop
-returns-2 c = to c.before.loop.invariant.1 (objects-done _ _ _ _ _ _ _ _ c.loop-test.false)
+returns-2 : tie.Need-returns invariant-loop decreases-loop
+returns-2 c = to c.loop-object.invariant.1 (objects-done _ _ _ _ _ _ _ _ c.loop-object-test.false)
 
-same_length : tie.Need-same-length invariant-loop decreases-loop
+same_length : tie.Need-shape_of-blocks-in-Refused invariant-loop decreases-loop
 same_length c =
-    let r = c.before.before.before.before in
-    r.parse-object.ensures.long ∙ (turn r).before.loop.invariant.1.long
+    c.parse_object.ensures.long ∙ (turn c.before.before).loop-object.invariant.1.long
 
-pub parse-objects-spec : {M : Type 1} → statement M
+pub parse_objects_spec : {M : Type 1} → statement M
 unfolding row_width
-parse-objects-spec =
+parse_objects_spec =
     tie.close
     (tie.spec
     invariant-loop
@@ -83,5 +78,5 @@ parse-objects-spec =
     (λ c. omega arith)
     (λ c. omega arith)
     loop-again
-    (λ c. c.before.loop.invariant.1.long)
+    (λ c. c.loop-object.invariant.1.long)
     returns-2)

@@ -5,6 +5,6 @@ use Rattle.objects.specs.Walk.{place}
 use Rattle.objects.proofs.walk.row_place.Statement.{statement}
 use Rattle.objects.proofs.walk.row_place.Tie as tie
 
-pub row-place-spec : {M : Type 1} → statement M
+pub row_place_spec : {M : Type 1} → statement M
 unfolding place row_width
-row-place-spec = tie.close (tie.spec (λ c. omega arith) (λ c. omega arith) (λ c. omega arith) (λ c. omega arith))
+row_place_spec = tie.close (tie.spec (λ c. omega arith) (λ c. omega arith) (λ c. omega arith) (λ c. omega arith))

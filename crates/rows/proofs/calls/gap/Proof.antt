@@ -7,23 +7,22 @@ use Rattle.rows.proofs.Answers.{gap-short, gap-formless, gap-done}
 use Rattle.rows.proofs.calls.gap.Statement.{statement}
 use Rattle.rows.proofs.calls.gap.Tie as tie
 
-returns : tie.Need-returns
+returns : tie.Need-returns-then-retained-lt-RETAINED_LENGTH
 unfolding retained_length
-returns c = gap-short _ c.if1.true
+returns c = gap-short _ c.if-retained-lt-RETAINED_LENGTH.true
 
-returns-2 : tie.Need-returns-2
+returns-2 : tie.Need-returns-then-not-in_form
 unfolding retained_length
-returns-2 c = gap-formless _ c.before.before.before.if1.false (sym c.before.in-form.ensures ∙ not-true _ c.if2.true)
+returns-2 c = gap-formless _ c.if-retained-lt-RETAINED_LENGTH.false (sym c.in_form.ensures ∙ not-true _ c.if-not-in_form.true-raw)
 
-returns-3 : tie.Need-returns-3
+returns-3 : tie.Need-returns
 unfolding retained_length
 returns-3 c =
-    let f = c.before.before.before in
-    gap-done _ f.before.before.before.if1.false (sym f.before.in-form.ensures ∙ not-false _ f.if2.false) c.before.doubt.ensures
+    gap-done _ c.if-retained-lt-RETAINED_LENGTH.false (sym c.in_form.ensures ∙ not-false _ c.if-not-in_form.false-raw) c.doubt.ensures
 
-pub gap-spec : {M : Type 1} → statement M
+pub gap_spec : {M : Type 1} → statement M
 unfolding retained_length
-gap-spec =
+gap_spec =
     tie.close
     (tie.spec
     returns

@@ -5,15 +5,14 @@ use Rattle.rows.proofs.calls.reset.Statement.{statement}
 use Rattle.rows.proofs.calls.reset.Tie as tie
 
 doubted : tie.Need-doubt-requires
-doubted c κs = doubt-there _ c.before.before.before.programme-start.ensures c.before.if1.true
+doubted c κs = doubt-there _ c.programme_start-number.ensures c.if-number-eq-ACCEPTED.true
 
-returns : tie.Need-returns
+returns : tie.Need-returns-then-number-eq-ACCEPTED
 returns c =
-    let f = c.before.before.before in
-    reset-done _ f.before.before.programme-start.ensures f.if1.true c.before.doubt.ensures
+    reset-done _ c.programme_start-number.ensures c.if-number-eq-ACCEPTED.true c.doubt.ensures
 
-returns-2 : tie.Need-returns-2
-returns-2 c = reset-refused _ c.before.before.programme-start.ensures c.if1.false
+returns-2 : tie.Need-returns-else-number-eq-ACCEPTED
+returns-2 c = reset-refused _ c.programme_start-number.ensures c.if-number-eq-ACCEPTED.false
 
-pub reset-spec : {M : Type 1} → statement M
-reset-spec = tie.close (tie.spec (λ c κs. search rules) doubted (λ c. search rules) returns (λ c. search rules) returns-2)
+pub reset_spec : {M : Type 1} → statement M
+reset_spec = tie.close (tie.spec (λ c κs. search rules) doubted (λ c. search rules) returns (λ c. search rules) returns-2)

@@ -11,28 +11,26 @@ use Rattle.rows.proofs.calls.row_number.Statement.{statement}
 use Rattle.rows.proofs.calls.row_number.Tie as tie
 
 -- what the test was of
-tested : (c : tie.After-shown-form)
-    → shown_form (row_at c.before.before.before.args.table.now (c.before.before.before.args.index * row_width)) ≡ c.shown-form.result
+tested : (c : tie.After-shown_form)
+    → shown_form (row_at c.args.table.now (c.args.index * row_width)) ≡ c.shown_form.result
 unfolding row_width
-tested c = ap shown_form (sym c.before.row_at.ensures) ∙ sym c.shown-form.ensures
+tested c = ap shown_form (sym c.row_at.ensures) ∙ sym c.shown_form.ensures
 
-returns : tie.Need-returns
+returns : tie.Need-returns-then-rows-index
 unfolding row_width
-returns c = sym (row-outside c.before.args.table.now c.before.args.index (omega arith))
+returns c = sym (row-outside c.args.table.now c.args.index (omega arith))
 
-returns-2 : tie.Need-returns-2
+returns-2 : tie.Need-returns-then-shown_form
 unfolding row_width
 returns-2 c =
-    let a = c.before.before.before.before.args in
-    sym (row-shown a.table.now a.index (omega arith) (tested c.before ∙ c.if2.true))
+    sym (row-shown c.args.table.now c.args.index (omega arith) (tested c.before ∙ c.if-shown_form.true))
 
-returns-3 : tie.Need-returns-3
+returns-3 : tie.Need-returns
 unfolding row_width
 returns-3 c =
-    let a = c.before.before.before.before.args in
-    sym (row-formless a.table.now a.index (omega arith) (tested c.before ∙ c.if2.false))
+    sym (row-formless c.args.table.now c.args.index (omega arith) (tested c.before ∙ c.if-shown_form.false))
 
-pub row-number-spec : {M : Type 1} → statement M
+pub row_number_spec : {M : Type 1} → statement M
 unfolding row_width
-row-number-spec =
+row_number_spec =
     tie.close (tie.spec returns (λ c. search rules) (λ c κs. omega arith) (λ c κs. search rules) returns-2 returns-3)

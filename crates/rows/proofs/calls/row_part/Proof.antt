@@ -9,26 +9,22 @@ use Rattle.rows.proofs.Answers.{shown-within, part-refused, part-shown}
 use Rattle.rows.proofs.calls.row_part.Statement.{statement}
 use Rattle.rows.proofs.calls.row_part.Tie as tie
 
-within : (c : tie.Else1) → (c.before.before.args.index + 1) * row_width ≤ length c.before.before.args.table.now
-within c = shown-within c.before.before.args.table.now c.before.before.args.index (sym c.before.row_number.ensures ∙ c.if1.false)
+within : (c : tie.Else-n-ne-ACCEPTED) → (c.args.index + 1) * row_width ≤ length c.args.table.now
+within c = shown-within c.args.table.now c.args.index (sym c.row_number-n.ensures ∙ c.if-n-ne-ACCEPTED.false)
 
-returns : tie.Need-returns
+returns : tie.Need-returns-then-n-ne-ACCEPTED
 returns c =
-    let a = c.before.before.before.args in
-    let n = c.before.before.row_number in
-    part-refused a.table.now a.index n.result n.ensures c.before.if1.true
+    part-refused c.args.table.now c.args.index c.row_number-n.result c.row_number-n.ensures c.if-n-ne-ACCEPTED.true
 
-returns-2 : tie.Need-returns-2
+returns-2 : tie.Need-returns
 unfolding row_width
 returns-2 c =
-    let a = c.before.before.before.args in
-    let n = c.before.before.row_number in
-    let width : a.index * row_width + row_width - a.index * row_width ≡ row_width = omega arith in
-    part-shown a.table.now a.index n.result n.ensures c.before.if1.false width
+    let width : c.args.index * row_width + row_width - c.args.index * row_width ≡ row_width = omega arith in
+    part-shown c.args.table.now c.args.index c.row_number-n.result c.row_number-n.ensures c.if-n-ne-ACCEPTED.false width
 
-pub row-part-spec : {M : Type 1} → statement M
+pub row_part_spec : {M : Type 1} → statement M
 unfolding row_width
-row-part-spec =
+row_part_spec =
     tie.close
     (tie.spec
     (λ c κs. search rules)

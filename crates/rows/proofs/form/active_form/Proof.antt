@@ -5,6 +5,6 @@ use Rattle.rows.proofs.Tests.{bits_is, bits-silent}
 use Rattle.rows.proofs.form.active_form.Statement.{statement}
 use Rattle.rows.proofs.form.active_form.Tie as tie
 
-pub active-form-spec : {M : Type 1} → statement M
+pub active_form_spec : {M : Type 1} → statement M
 unfolding active_form
-active-form-spec = tie.close (tie.spec (λ c. search (rules, bits_is, bits-silent)))
+active_form_spec = tie.close (tie.spec (λ c. search (rules, bits_is, bits-silent)))

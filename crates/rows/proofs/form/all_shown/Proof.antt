@@ -12,32 +12,32 @@ use Rattle.rows.proofs.Passing.{every-shown, Passing, pass-none, pass-row, pass_
 use Rattle.rows.proofs.form.all_shown.Statement.{statement}
 use Rattle.rows.proofs.form.all_shown.Tie as tie
 
-abbrev invariant-loop : tie.invariant-loop
+abbrev invariant-loop : tie.invariant-loop-i
 invariant-loop table count i₀ i = Passing all_shown 0 table count i
 
-abbrev decreases-loop : tie.decreases-loop
+abbrev decreases-loop : tie.decreases-loop-i
 decreases-loop table count i₀ i = count - i
 
 -- what the test was of
-tested : (c : tie.After-shown-form invariant-loop decreases-loop)
-    → shown_form (row_at c.before.before.before.before.args.table.now (0 + c.before.before.before.loop.i * row_width)) ≡ c.shown-form.result
+tested : (c : tie.After-shown_form invariant-loop decreases-loop)
+    → shown_form (row_at c.args.table.now (0 + c.loop-i.i * row_width)) ≡ c.shown_form.result
 unfolding row_width
-tested c = rw zero-add (ap shown_form (sym c.before.row_at.ensures) ∙ sym c.shown-form.ensures)
+tested c = rw zero-add (ap shown_form (sym c.row_at.ensures) ∙ sym c.shown_form.ensures)
 
-returns : tie.Need-returns invariant-loop decreases-loop
+returns : tie.Need-returns-then-not-shown_form invariant-loop decreases-loop
 returns c =
-    fail-row every-shown c.before.before.before.before.loop.invariant c.before.before.before.loop-test.true (tested c.before ∙ not-true _ c.if1.true)
+    fail-row every-shown c.loop-i.invariant c.loop-i-test.true (tested c.before ∙ not-true _ c.if-not-shown_form.true-raw)
 
-loop-again : tie.Need-loop-preserved invariant-loop decreases-loop
+loop-again : tie.Need-loop-i-preserved invariant-loop decreases-loop
 loop-again c =
-    pass-row every-shown c.before.before.before.before.loop.invariant c.before.before.before.loop-test.true (tested c.before ∙ not-false _ c.if1.false)
+    pass-row every-shown c.loop-i.invariant c.loop-i-test.true (tested c.before ∙ not-false _ c.if-not-shown_form.false-raw)
 
-returns-2 : tie.Need-returns-2 invariant-loop decreases-loop
-returns-2 c = pass_all every-shown c.before.loop.invariant c.loop-test.false
+returns-2 : tie.Need-returns invariant-loop decreases-loop
+returns-2 c = pass_all every-shown c.loop-i.invariant c.loop-i-test.false
 
-pub all-shown-spec : {M : Type 1} → statement M
+pub all_shown_spec : {M : Type 1} → statement M
 unfolding row_width
-all-shown-spec =
+all_shown_spec =
     tie.close
     (tie.spec
     invariant-loop

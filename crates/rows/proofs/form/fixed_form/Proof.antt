@@ -8,13 +8,12 @@ use Rattle.rows.proofs.Tests.{bits_is}
 use Rattle.rows.proofs.form.fixed_form.Statement.{statement}
 use Rattle.rows.proofs.form.fixed_form.Tie as tie
 
-pub fixed-form-spec : {M : Type 1} → statement M
+pub fixed_form_spec : {M : Type 1} → statement M
 unfolding fixed_form
-fixed-form-spec =
+fixed_form_spec =
     tie.close
     (tie.spec
-    (λ c. rw (← bits_is (kind_code dynamic) c.before.before.before.args.row.kind (omega arith) (search rules), eq-eqb _ _ c.if1.true))
+    (λ c. rw (← bits_is (kind_code dynamic) c.args.row.kind (omega arith) (search rules), eq-eqb _ _ c.if-row-eq-DYNAMIC.true))
     (λ c κs. search rules)
     (λ c.
-    let e = c.before in
-    rw (← bits_is (kind_code dynamic) e.before.before.before.args.row.kind (omega arith) (search rules), ne_eqb _ _ e.if1.false) c.is-default.ensures))
+    rw (← bits_is (kind_code dynamic) c.args.row.kind (omega arith) (search rules), ne_eqb _ _ c.if-row-eq-DYNAMIC.false) c.is_default.ensures))

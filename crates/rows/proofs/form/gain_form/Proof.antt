@@ -7,7 +7,7 @@ use Rattle.rows.proofs.form.gain_form.Tie as tie
 
 returns : tie.Need-returns
 unfolding gain_form
-returns c = rw c.within.ensures (search (rules, bits-silent))
+returns c = rw c.within-heard.ensures (search (rules, bits-silent))
 
-pub gain-form-spec : {M : Type 1} → statement M
-gain-form-spec = tie.close (tie.spec (λ c κs. search rules) returns)
+pub gain_form_spec : {M : Type 1} → statement M
+gain_form_spec = tie.close (tie.spec (λ c κs. search rules) returns)

@@ -12,29 +12,29 @@ use Rattle.rows.proofs.form.in_form.Statement.{statement}
 use Rattle.rows.proofs.form.in_form.Tie as tie
 
 -- what the two tests say together
-head : (c : tie.After-is-flag) {b : Bool} → (c.before.within.result && c.is-flag.result) ≡ b
-    → (between (pos 0) (pos object_limit) (get_or c.before.before.before.before.args.table.now 0 (pos 0))
-    && is_flag (get_or c.before.before.before.before.args.table.now 1 (pos 0))) ≡ b
+head : (c : tie.After-is_flag-doubted) {b : Bool} → (c.within-counted.result && c.is_flag-doubted.result) ≡ b
+    → (between (pos 0) (pos object_limit) (get_or c.args.table.now 0 (pos 0))
+    && is_flag (get_or c.args.table.now 1 (pos 0))) ≡ b
 unfolding object_limit
-head c e = sym (rw (c.before.within.ensures, c.is-flag.ensures) (search rules)) ∙ e
+head c e = sym (rw (c.within-counted.ensures, c.is_flag-doubted.ensures) (search rules)) ∙ e
 
-returns : tie.Need-returns
+returns : tie.Need-returns-then-not-counted-doubted
 unfolding in_form
-returns c = rw (head c.before (not-true _ c.if1.true))
+returns c = rw (head c.before (not-true _ c.if-not-counted-doubted.true-raw))
 
-count-of-requires : tie.Need-count-of-requires
+count-of-requires : tie.Need-count_of-requires
 unfolding retained_length
 count-of-requires c κs =
-    record { there = omega arith; in_range = ((and-eq-true_iff _ _).0 (head c.before (not-false _ c.if1.false))).0 }
+    record { there = omega arith; in_range = ((and-eq-true_iff _ _).0 (head c.before (not-false _ c.if-not-counted-doubted.false-raw))).0 }
 
-returns-2 : tie.Need-returns-2
+returns-2 : tie.Need-returns
 unfolding in_form state_of
 returns-2 c =
-    rw (head c.before.before.before (not-false _ c.before.before.if1.false), ← c.before.count_of.ensures.same) c.rows-form.ensures
+    rw (head c.before.before.before (not-false _ c.if-not-counted-doubted.false-raw), ← c.count_of.ensures.same) c.rows_form.ensures
 
-pub in-form-spec : {M : Type 1} → statement M
+pub in_form_spec : {M : Type 1} → statement M
 unfolding retained_length
-in-form-spec =
+in_form_spec =
     tie.close
     (tie.spec
     (λ c. search rules)

@@ -6,7 +6,7 @@ use Rattle.rows.proofs.form.is_default.Tie as tie
 
 returns : tie.Need-returns
 unfolding is_default
-returns c = rw (← c.before.default-picture.ensures) c.same-picture.ensures
+returns c = rw (← c.default_picture.ensures) c.same_picture.ensures
 
-pub is-default-spec : {M : Type 1} → statement M
-is-default-spec = tie.close (tie.spec (λ c κs. search rules) (λ c κs. search rules) returns)
+pub is_default_spec : {M : Type 1} → statement M
+is_default_spec = tie.close (tie.spec (λ c κs. search rules) (λ c κs. search rules) returns)

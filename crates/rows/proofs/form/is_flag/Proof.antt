@@ -7,5 +7,5 @@ use Rattle.rows.proofs.form.is_flag.Tie as tie
 returns : tie.Need-returns
 returns c = c.within.ensures ∙ search rules
 
-pub is-flag-spec : {M : Type 1} → statement M
-is-flag-spec = tie.close (tie.spec (λ c κs. search rules) returns)
+pub is_flag_spec : {M : Type 1} → statement M
+is_flag_spec = tie.close (tie.spec (λ c κs. search rules) returns)

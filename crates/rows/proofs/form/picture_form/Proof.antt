@@ -11,16 +11,16 @@ use Rattle.rows.proofs.form.picture_form.Tie as tie
 returns : tie.Need-returns
 unfolding picture_form picture_tests
 returns c =
-    all_pass (picture_tests (picture_said c.before.before.before.before.before.before.before.before.args.p))
-    (c.before.before.before.before.before.before.position-form.ensures ∙ search rules
-    and c.before.before.before.before.before.zone-form.ensures
-    and c.before.before.before.before.size-form.ensures
-    and c.before.before.is-flag.ensures ∙ search rules
-    and c.is-flag2.ensures ∙ search rules
+    all_pass (picture_tests (picture_said c.args.p))
+    (c.position_form-position.ensures ∙ search rules
+    and c.zone_form-zone.ensures
+    and c.size_form-size.ensures
+    and c.is_flag-screen.ensures ∙ search rules
+    and c.is_flag-lock.ensures ∙ search rules
     and no_more)
 
-pub picture-form-spec : {M : Type 1} → statement M
-picture-form-spec =
+pub picture_form_spec : {M : Type 1} → statement M
+picture_form_spec =
     tie.close
     (tie.spec
     (λ c κs. search rules)

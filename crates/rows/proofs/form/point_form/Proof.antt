@@ -11,11 +11,11 @@ use Rattle.rows.proofs.form.point_form.Tie as tie
 returns : tie.Need-returns
 unfolding point_form point_tests
 returns c =
-    all_pass (point_tests (point_said c.before.before.before.before.before.before.args.p))
-    (c.before.before.before.before.within.ensures ∙ search rules
-    and c.before.before.within2.ensures ∙ search rules
-    and c.within3.ensures ∙ search rules
+    all_pass (point_tests (point_said c.args.p))
+    (c.within-x.ensures ∙ search rules
+    and c.within-y.ensures ∙ search rules
+    and c.within-z.ensures ∙ search rules
     and no_more)
 
-pub point-form-spec : {M : Type 1} → statement M
-point-form-spec = tie.close (tie.spec (λ c κs. search rules) (λ c κs. search rules) (λ c. search rules) (λ c κs. search rules) returns)
+pub point_form_spec : {M : Type 1} → statement M
+point_form_spec = tie.close (tie.spec (λ c κs. search rules) (λ c κs. search rules) (λ c. search rules) (λ c κs. search rules) returns)

@@ -13,11 +13,10 @@ use Rattle.rows.proofs.form.position_form.Tie as tie
 returns : tie.Need-returns
 unfolding position_form
 returns c =
-    let a = c.before.before.args in
-    all_pass (point_form (point_said a.p) ∷ up_to infinity a.d ∷ [])
-    (c.before.point-form.ensures
-    and c.within.ensures ∙ search rules
+    all_pass (point_form (point_said c.args.p) ∷ up_to infinity c.args.d ∷ [])
+    (c.point_form-point.ensures
+    and c.within-distance.ensures ∙ search rules
     and no_more)
 
-pub position-form-spec : {M : Type 1} → statement M
-position-form-spec = tie.close (tie.spec (λ c κs. search rules) (λ c κs. search rules) returns)
+pub position_form_spec : {M : Type 1} → statement M
+position_form_spec = tie.close (tie.spec (λ c κs. search rules) (λ c κs. search rules) returns)

@@ -7,7 +7,7 @@ use Rattle.rows.proofs.form.row_form.Tie as tie
 
 returns : tie.Need-returns
 unfolding row_form
-returns c = rw c.before.before.before.before.shown-form.ensures (search (rules, bits_is))
+returns c = rw c.shown_form-shown.ensures (search (rules, bits_is))
 
-pub row-form-spec : {M : Type 1} → statement M
-row-form-spec = tie.close (tie.spec (λ c κs. search rules) returns)
+pub row_form_spec : {M : Type 1} → statement M
+row_form_spec = tie.close (tie.spec (λ c κs. search rules) returns)

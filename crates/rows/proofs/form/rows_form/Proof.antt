@@ -11,32 +11,32 @@ use Rattle.rows.proofs.Passing.{every-form, Passing, pass-none, pass-row, pass_a
 use Rattle.rows.proofs.form.rows_form.Statement.{statement}
 use Rattle.rows.proofs.form.rows_form.Tie as tie
 
-abbrev invariant-loop : tie.invariant-loop
+abbrev invariant-loop : tie.invariant-loop-i
 invariant-loop table count i₀ i = Passing all_form retained_head table count i
 
-abbrev decreases-loop : tie.decreases-loop
+abbrev decreases-loop : tie.decreases-loop-i
 decreases-loop table count i₀ i = count - i
 
 -- what the test was of
-tested : (c : tie.After-row-form invariant-loop decreases-loop)
-    → row_form (row_at c.before.before.before.before.args.table.now (retained_head + c.before.before.before.loop.i * row_width)) ≡ c.row-form.result
+tested : (c : tie.After-row_form invariant-loop decreases-loop)
+    → row_form (row_at c.args.table.now (retained_head + c.loop-i.i * row_width)) ≡ c.row_form.result
 unfolding row_width retained_head
-tested c = ap row_form (sym c.before.row_at.ensures) ∙ sym c.row-form.ensures
+tested c = ap row_form (sym c.row_at-row.ensures) ∙ sym c.row_form.ensures
 
-returns : tie.Need-returns invariant-loop decreases-loop
+returns : tie.Need-returns-then-not-row_form invariant-loop decreases-loop
 returns c =
-    fail-row every-form c.before.before.before.before.loop.invariant c.before.before.before.loop-test.true (tested c.before ∙ not-true _ c.if1.true)
+    fail-row every-form c.loop-i.invariant c.loop-i-test.true (tested c.before ∙ not-true _ c.if-not-row_form.true-raw)
 
-loop-again : tie.Need-loop-preserved invariant-loop decreases-loop
+loop-again : tie.Need-loop-i-preserved invariant-loop decreases-loop
 loop-again c =
-    pass-row every-form c.before.before.before.before.loop.invariant c.before.before.before.loop-test.true (tested c.before ∙ not-false _ c.if1.false)
+    pass-row every-form c.loop-i.invariant c.loop-i-test.true (tested c.before ∙ not-false _ c.if-not-row_form.false-raw)
 
-returns-2 : tie.Need-returns-2 invariant-loop decreases-loop
-returns-2 c = pass_all every-form c.before.loop.invariant c.loop-test.false
+returns-2 : tie.Need-returns invariant-loop decreases-loop
+returns-2 c = pass_all every-form c.loop-i.invariant c.loop-i-test.false
 
-pub rows-form-spec : {M : Type 1} → statement M
+pub rows_form_spec : {M : Type 1} → statement M
 unfolding row_width retained_head
-rows-form-spec =
+rows_form_spec =
     tie.close
     (tie.spec
     invariant-loop

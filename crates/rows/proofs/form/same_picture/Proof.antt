@@ -7,19 +7,13 @@ use Rattle.rows.proofs.form.same_picture.Tie as tie
 
 returns : tie.Need-returns
 returns c =
-    let size = c.before.before.before.before.before.before.before.before in
-    let zone = size.before in
-    let position = zone.before in
-    let a = position.before.args in
-    let fits-p = c.before.before.struct-told3.given.1.1.1.1 in
-    let fits-q = c.struct-told4.given.1.1.1.1 in
     all_pass _
-    (position.same-position.ensures
-    and zone.same-zone.ensures
-    and size.same_size.ensures
-    and bits-same a.p.screen a.q.screen fits-p.0.1 fits-q.0.1
-    and bits-same a.p.lock a.q.lock fits-p.1.0.1 fits-q.1.0.1
+    (c.same_position-position.ensures
+    and c.same_zone-zone.ensures
+    and c.same_size-size.ensures
+    and bits-same c.args.p.screen c.args.q.screen c.struct_told-3-1.given.1.1.1.1.0.1 c.struct_told-4-1.given.1.1.1.1.0.1
+    and bits-same c.args.p.lock c.args.q.lock c.struct_told-3-1.given.1.1.1.1.1.0.1 c.struct_told-4-1.given.1.1.1.1.1.0.1
     and no_more)
 
-pub same-picture-spec : {M : Type 1} → statement M
-same-picture-spec = tie.close (tie.spec (λ c κs. search rules) (λ c κs. search rules) (λ c κs. search rules) returns)
+pub same_picture_spec : {M : Type 1} → statement M
+same_picture_spec = tie.close (tie.spec (λ c κs. search rules) (λ c κs. search rules) (λ c κs. search rules) returns)

@@ -7,12 +7,11 @@ use Rattle.rows.proofs.form.same_point.Tie as tie
 
 returns : tie.Need-returns
 returns c =
-    let a = c.before.before.before.before.before.before.before.before.before.before.before.before.args in
     all_pass _
-    (bits-same a.p.x a.q.x (search rules) (search rules)
-    and bits-same a.p.y a.q.y (search rules) (search rules)
-    and bits-same a.p.z a.q.z (search rules) (search rules)
+    (bits-same c.args.p.x c.args.q.x (search rules) (search rules)
+    and bits-same c.args.p.y c.args.q.y (search rules) (search rules)
+    and bits-same c.args.p.z c.args.q.z (search rules) (search rules)
     and no_more)
 
-pub same-point-spec : {M : Type 1} → statement M
-same-point-spec = tie.close (tie.spec returns)
+pub same_point_spec : {M : Type 1} → statement M
+same_point_spec = tie.close (tie.spec returns)

@@ -7,12 +7,10 @@ use Rattle.rows.proofs.form.same_position.Tie as tie
 
 returns : tie.Need-returns
 returns c =
-    let point = c.before.before.before.before in
-    let a = point.before.args in
     all_pass _
-    (point.same_point.ensures
-    and bits-same a.p.distance a.q.distance (search rules) (search rules)
+    (c.same_point-point.ensures
+    and bits-same c.args.p.distance c.args.q.distance (search rules) (search rules)
     and no_more)
 
-pub same-position-spec : {M : Type 1} → statement M
-same-position-spec = tie.close (tie.spec (λ c κs. search rules) returns)
+pub same_position_spec : {M : Type 1} → statement M
+same_position_spec = tie.close (tie.spec (λ c κs. search rules) returns)

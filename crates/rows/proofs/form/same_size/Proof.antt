@@ -7,12 +7,11 @@ use Rattle.rows.proofs.form.same_size.Tie as tie
 
 returns : tie.Need-returns
 returns c =
-    let a = c.before.before.before.before.before.before.before.before.before.before.before.before.args in
     all_pass _
-    (bits-same a.p.width a.q.width (search rules) (search rules)
-    and bits-same a.p.depth a.q.depth (search rules) (search rules)
-    and bits-same a.p.height a.q.height (search rules) (search rules)
+    (bits-same c.args.p.width c.args.q.width (search rules) (search rules)
+    and bits-same c.args.p.depth c.args.q.depth (search rules) (search rules)
+    and bits-same c.args.p.height c.args.q.height (search rules) (search rules)
     and no_more)
 
-pub same-size-spec : {M : Type 1} → statement M
-same-size-spec = tie.close (tie.spec returns)
+pub same_size_spec : {M : Type 1} → statement M
+same_size_spec = tie.close (tie.spec returns)

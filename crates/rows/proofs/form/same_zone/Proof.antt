@@ -7,11 +7,10 @@ use Rattle.rows.proofs.form.same_zone.Tie as tie
 
 returns : tie.Need-returns
 returns c =
-    let a = c.before.before.before.before.before.before.before.before.args in
     all_pass _
-    (bits-same a.p.zone a.q.zone (search rules) (search rules)
-    and bits-same a.p.elevation a.q.elevation (search rules) (search rules)
+    (bits-same c.args.p.zone c.args.q.zone (search rules) (search rules)
+    and bits-same c.args.p.elevation c.args.q.elevation (search rules) (search rules)
     and no_more)
 
-pub same-zone-spec : {M : Type 1} → statement M
-same-zone-spec = tie.close (tie.spec returns)
+pub same_zone_spec : {M : Type 1} → statement M
+same_zone_spec = tie.close (tie.spec returns)

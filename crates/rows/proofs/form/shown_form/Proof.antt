@@ -11,19 +11,19 @@ use Rattle.rows.proofs.form.shown_form.Tie as tie
 returns : tie.Need-returns
 unfolding shown_form shown_tests mark_form
 returns c =
-    all_pass (shown_tests (row_said c.before.before.before.before.before.before.before.before.before.before.before.before.before.args.row))
-    (c.before.before.before.before.before.before.before.before.before.before.before.within.ensures ∙ search rules
-    and c.before.before.before.before.before.before.before.before.before.is-flag.ensures ∙ search rules
-    and c.before.before.before.before.before.before.before.gain-form.ensures ∙ search rules
-    and c.before.before.before.before.before.within2.ensures ∙ search rules
-    and c.before.before.before.before.picture-form.ensures
-    and c.before.before.within3.ensures ∙ search rules
-    and c.before.active-form.ensures
-    and c.fixed-form.ensures
+    all_pass (shown_tests (row_said c.args.row))
+    (c.within-kind.ensures ∙ search rules
+    and c.is_flag-flag.ensures ∙ search rules
+    and c.gain_form-gain.ensures ∙ search rules
+    and c.within-priority.ensures ∙ search rules
+    and c.picture_form-picture.ensures
+    and c.within-mark.ensures ∙ search rules
+    and c.active_form-active.ensures
+    and c.fixed_form-fixed.ensures
     and no_more)
 
-pub shown-form-spec : {M : Type 1} → statement M
-shown-form-spec =
+pub shown_form_spec : {M : Type 1} → statement M
+shown_form_spec =
     tie.close
     (tie.spec
     (λ c κs. search rules)

@@ -12,12 +12,11 @@ use Rattle.rows.proofs.form.size_form.Tie as tie
 returns : tie.Need-returns
 unfolding size_form
 returns c =
-    let s = c.before.before.before.before.before.before.args.s in
-    all_pass (up_to size_limit s.width ∷ up_to size_limit s.depth ∷ up_to size_limit s.height ∷ [])
-    (c.before.before.before.before.within.ensures ∙ search rules
-    and c.before.before.within2.ensures ∙ search rules
-    and c.within3.ensures ∙ search rules
+    all_pass (up_to size_limit c.args.s.width ∷ up_to size_limit c.args.s.depth ∷ up_to size_limit c.args.s.height ∷ [])
+    (c.within-width.ensures ∙ search rules
+    and c.within-depth.ensures ∙ search rules
+    and c.within-height.ensures ∙ search rules
     and no_more)
 
-pub size-form-spec : {M : Type 1} → statement M
-size-form-spec = tie.close (tie.spec (λ c κs. search rules) (λ c κs. search rules) (λ c κs. search rules) returns)
+pub size_form_spec : {M : Type 1} → statement M
+size_form_spec = tie.close (tie.spec (λ c κs. search rules) (λ c κs. search rules) (λ c κs. search rules) returns)

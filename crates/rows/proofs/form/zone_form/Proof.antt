@@ -12,11 +12,10 @@ use Rattle.rows.proofs.form.zone_form.Tie as tie
 returns : tie.Need-returns
 unfolding zone_form
 returns c =
-    let z = c.before.before.before.before.args.z in
-    all_pass (up_to zone_limit z.zone ∷ is_flag z.elevation ∷ [])
-    (c.before.before.within.ensures ∙ search rules
-    and c.is-flag.ensures ∙ search rules
+    all_pass (up_to zone_limit c.args.z.zone ∷ is_flag c.args.z.elevation ∷ [])
+    (c.within-zone.ensures ∙ search rules
+    and c.is_flag-elevation.ensures ∙ search rules
     and no_more)
 
-pub zone-form-spec : {M : Type 1} → statement M
-zone-form-spec = tie.close (tie.spec (λ c κs. search rules) (λ c κs. search rules) returns)
+pub zone_form_spec : {M : Type 1} → statement M
+zone_form_spec = tie.close (tie.spec (λ c κs. search rules) (λ c κs. search rules) returns)

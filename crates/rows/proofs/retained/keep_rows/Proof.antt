@@ -18,19 +18,18 @@ use Rattle.rows.proofs.retained.keep_rows.Tie as tie
 returns : tie.Need-returns
 unfolding row_width object_limit retained_head retained_length start_length
 returns c =
-    let start = c.before.before.before.before.before.before in
-    rw (c.before.clear-from.ensures, to_z_pos w16 {n = start.args.count} (omega arith), c.before.before.before.before.copy.ensures)
-    (kept start.requires)
+    rw (c.clear_from.ensures, to_z_pos w16 {n = c.args.count} (omega arith), c.copy.ensures)
+    (kept c.requires)
 
 as_long : (l copied cleared vs zs : List ℤ) (p q : ℕ) (a b : ℤ) → copied ≡ written l q vs → cleared ≡ written (set (set copied 0 a) 1 b) p zs → length cleared ≡ length l
 as_long l copied cleared vs zs p q a b e f = rw (f, length-written, length-set, length-set, e) (length-written l q vs)
 
-same_length : tie.Need-same-length
-same_length c = as_long _ _ _ _ _ _ _ _ _ c.before.before.before.before.copy.ensures c.before.clear-from.ensures
+same_length : tie.Need-shape_of-retained
+same_length c = as_long _ _ _ _ _ _ _ _ _ c.copy.ensures c.clear_from.ensures
 
-pub keep-rows-spec : {M : Type 1} → statement M
+pub keep_rows_spec : {M : Type 1} → statement M
 unfolding row_width object_limit retained_head retained_length start_length
-keep-rows-spec =
+keep_rows_spec =
     tie.close
     (tie.spec
     (λ c. search rules)

@@ -4,6 +4,6 @@ use Rattle.standard.specs.Rows.{default_picture}
 use Rattle.rows.proofs.row.default_picture.Statement.{statement}
 use Rattle.rows.proofs.row.default_picture.Tie as tie
 
-pub default-picture-spec : {M : Type 1} → statement M
+pub default_picture_spec : {M : Type 1} → statement M
 unfolding default_picture
-default-picture-spec = tie.close (tie.spec (λ c. refl))
+default_picture_spec = tie.close (tie.spec (λ c. refl))

@@ -8,5 +8,5 @@ use Rattle.rows.proofs.row.is_dynamic.Tie as tie
 returns : tie.Need-returns
 returns c = rw (fixed-tests c.args.kind) (search (rules, bits_is))
 
-pub is-dynamic-spec : {M : Type 1} → statement M
-is-dynamic-spec = tie.close (tie.spec returns)
+pub is_dynamic_spec : {M : Type 1} → statement M
+is_dynamic_spec = tie.close (tie.spec returns)

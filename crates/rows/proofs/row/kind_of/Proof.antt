@@ -10,14 +10,14 @@ use Rattle.rows.proofs.row.kind_of.Statement.{statement}
 use Rattle.rows.proofs.row.kind_of.Tie as tie
 
 -- the number is handed on as its bits
-tested : (c : tie.After-is-dynamic) {b : Bool} → c.is-dynamic.result ≡ b → is_dynamic (kind_of c.before.args.number) ≡ b
-tested c e = rw (to_z-of_z c.before.ranges.number) at (sym c.is-dynamic.ensures ∙ e)
+tested : (c : tie.After-is_dynamic) {b : Bool} → c.is_dynamic.result ≡ b → is_dynamic (kind_of c.args.number) ≡ b
+tested c e = rw (to_z-of_z c.ranges.number) at (sym c.is_dynamic.ensures ∙ e)
 
-returns : tie.Need-returns
-returns c = rw (dynamic-kind c.before.before.args.number (tested c.before c.if1.true))
+returns : tie.Need-returns-then-is_dynamic
+returns c = rw (dynamic-kind c.args.number (tested c.before c.if-is_dynamic.true))
 
-returns-2 : tie.Need-returns-2
-returns-2 c = rw (to_z-of_z c.before.before.ranges.number) (sym (fixed-kind _ (tested c.before c.if1.false)))
+returns-2 : tie.Need-returns-else-is_dynamic
+returns-2 c = rw (to_z-of_z c.ranges.number) (sym (fixed-kind _ (tested c.before c.if-is_dynamic.false)))
 
-pub kind-of-spec : {M : Type 1} → statement M
-kind-of-spec = tie.close (tie.spec (λ c κs. search rules) returns returns-2)
+pub kind_of_spec : {M : Type 1} → statement M
+kind_of_spec = tie.close (tie.spec (λ c κs. search rules) returns returns-2)

@@ -8,11 +8,11 @@ use Rattle.rows.proofs.row.picture_of.Tie as tie
 returns : tie.Need-returns
 unfolding row_of
 returns c =
-    search (rules, c.before.before.before.before.before.point-of.ensures, c.before.before.before.zone-of.ensures, c.before.before.type_size.ensures)
+    search (rules, c.point_of.ensures, c.zone_of.ensures, c.size_of.ensures)
 
-pub picture-of-spec : {M : Type 1} → statement M
+pub picture_of_spec : {M : Type 1} → statement M
 unfolding row_width
-picture-of-spec =
+picture_of_spec =
     tie.close
     (tie.spec
     (λ c κs. search rules)

@@ -5,6 +5,6 @@ use Rattle.standard.specs.Tables.{row_of}
 use Rattle.rows.proofs.row.point_of.Statement.{statement}
 use Rattle.rows.proofs.row.point_of.Tie as tie
 
-pub point-of-spec : {M : Type 1} → statement M
+pub point_of_spec : {M : Type 1} → statement M
 unfolding row_width row_of
-point-of-spec = tie.close (tie.spec (λ c. search rules) (λ c. search rules) (λ c. search rules) (λ c. search rules))
+point_of_spec = tie.close (tie.spec (λ c. search rules) (λ c. search rules) (λ c. search rules) (λ c. search rules))

@@ -7,11 +7,11 @@ use Rattle.rows.proofs.row.row_of.Tie as tie
 
 returns : tie.Need-returns
 unfolding row_of
-returns c = search (rules, c.before.picture-of.ensures)
+returns c = search (rules, c.picture_of.ensures)
 
-pub row-of-spec : {M : Type 1} → statement M
+pub row_of_spec : {M : Type 1} → statement M
 unfolding row_width
-row-of-spec =
+row_of_spec =
     tie.close
     (tie.spec
     (λ c. search rules)

@@ -5,6 +5,6 @@ use Rattle.standard.specs.Tables.{row_of}
 use Rattle.rows.proofs.row.size_of.Statement.{statement}
 use Rattle.rows.proofs.row.size_of.Tie as tie
 
-pub size-of-spec : {M : Type 1} → statement M
+pub size_of_spec : {M : Type 1} → statement M
 unfolding row_width row_of
-size-of-spec = tie.close (tie.spec (λ c. search rules) (λ c. search rules) (λ c. search rules) (λ c. search rules))
+size_of_spec = tie.close (tie.spec (λ c. search rules) (λ c. search rules) (λ c. search rules) (λ c. search rules))

@@ -5,6 +5,6 @@ use Rattle.standard.specs.Tables.{row_of}
 use Rattle.rows.proofs.row.zone_of.Statement.{statement}
 use Rattle.rows.proofs.row.zone_of.Tie as tie
 
-pub zone-of-spec : {M : Type 1} → statement M
+pub zone_of_spec : {M : Type 1} → statement M
 unfolding row_width row_of
-zone-of-spec = tie.close (tie.spec (λ c. search rules) (λ c. search rules) (λ c. search rules))
+zone_of_spec = tie.close (tie.spec (λ c. search rules) (λ c. search rules) (λ c. search rules))

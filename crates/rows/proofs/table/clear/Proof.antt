@@ -10,9 +10,8 @@ use Rattle.rows.proofs.table.clear.Tie as tie
 
 returns : tie.Need-returns
 returns c =
-    let start = c.before.before.before in
-    let n = length-replicate start.args.n (pos 0) in
-    c.before.clear-from.ensures ∙ written_over start.args.table.now (replicate start.args.n (pos 0)) (omega (arith, start.requires))
+    let n = length-replicate c.args.n (pos 0) in
+    c.clear_from.ensures ∙ written_over c.args.table.now (replicate c.args.n (pos 0)) (omega (arith, c.requires))
 
 pub clear_spec : {M : Type 1} → statement M
 clear_spec = tie.close (tie.spec (λ c κs. search rules) (λ c. search rules) returns)

@@ -7,14 +7,14 @@ use Rattle.rows.proofs.Storing.{Storing, begin, fill_on, filled_on}
 use Rattle.rows.proofs.table.clear_from.Statement.{statement}
 use Rattle.rows.proofs.table.clear_from.Tie as tie
 
-abbrev invariant-loop : tie.invariant-loop
+abbrev invariant-loop : tie.invariant-loop-i
 invariant-loop table₀ at n i₀ table i = Storing table₀ at (replicate i (pos 0)) n i table
 
-abbrev decreases-loop : tie.decreases-loop
+abbrev decreases-loop : tie.decreases-loop-i
 decreases-loop table₀ at n i₀ table i = n - i
 
-pub clear-from-spec : {M : Type 1} → statement M
-clear-from-spec =
+pub clear_from_spec : {M : Type 1} → statement M
+clear_from_spec =
     tie.close
     (tie.spec
     invariant-loop
@@ -25,6 +25,6 @@ clear-from-spec =
     (λ c. omega arith)
     (λ c. omega arith)
     (λ c. omega arith)
-    (λ c. fill_on (pos 0) c.loop-test.true c.before.loop.invariant)
-    (λ c. c.before.loop.invariant.long)
-    (λ c. filled_on (pos 0) c.loop-test.false c.before.loop.invariant))
+    (λ c. fill_on (pos 0) c.loop-i-test.true c.loop-i.invariant)
+    (λ c. c.loop-i.invariant.long)
+    (λ c. filled_on (pos 0) c.loop-i-test.false c.loop-i.invariant))

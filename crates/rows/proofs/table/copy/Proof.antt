@@ -8,26 +8,25 @@ use Rattle.rows.proofs.Storing.{Storing, begin, copy-turn, copied}
 use Rattle.rows.proofs.table.copy.Statement.{statement}
 use Rattle.rows.proofs.table.copy.Tie as tie
 
-abbrev invariant-loop : tie.invariant-loop
+abbrev invariant-loop : tie.invariant-loop-i
 invariant-loop from first to₀ at n i₀ to i = Storing to₀ at (take i (drop first from)) n i to
 
-abbrev decreases-loop : tie.decreases-loop
+abbrev decreases-loop : tie.decreases-loop-i
 decreases-loop from first to₀ at n i₀ to i = n - i
 
-loop-holds : tie.Need-loop-init invariant-loop decreases-loop
+loop-holds : tie.Need-loop-i-init invariant-loop decreases-loop
 loop-holds c = begin c.args.to.now c.args.at c.args.n
 
-loop-again : tie.Need-loop-preserved invariant-loop decreases-loop
+loop-again : tie.Need-loop-i-preserved invariant-loop decreases-loop
 loop-again c =
-    let a = c.before.before.before.args in
-    let next = copy-turn a.from.now a.first (pos 0) (omega arith) c.before.loop-test.true c.before.before.loop.invariant in
+    let next = copy-turn c.args.from.now c.args.first (pos 0) (omega arith) c.loop-i-test.true c.loop-i.invariant in
     search rules
 
-same_length : tie.Need-same-length invariant-loop decreases-loop
-same_length c = c.before.loop.invariant.long
+same_length : tie.Need-shape_of-to invariant-loop decreases-loop
+same_length c = c.loop-i.invariant.long
 
 returns : tie.Need-returns invariant-loop decreases-loop
-returns c = let a = c.before.before.args in copied (drop a.first a.from.now) c.loop-test.false c.before.loop.invariant
+returns c = let a = c.args in copied (drop a.first a.from.now) c.loop-i-test.false c.loop-i.invariant
 
 pub copy_spec : {M : Type 1} → statement M
 copy_spec =

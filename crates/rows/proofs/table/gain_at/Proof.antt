@@ -7,6 +7,6 @@ use Rattle.rows.proofs.Written.{get_d_part}
 use Rattle.rows.proofs.table.gain_at.Statement.{statement}
 use Rattle.rows.proofs.table.gain_at.Tie as tie
 
-pub gain-at-spec : {M : Type 1} → statement M
+pub gain_at_spec : {M : Type 1} → statement M
 unfolding row_width row_of row_at
-gain-at-spec = tie.close (tie.spec (λ c. search rules) (λ c. search rules) (λ c. search rules) (λ c. search (rules, get_d_part)))
+gain_at_spec = tie.close (tie.spec (λ c. search rules) (λ c. search rules) (λ c. search rules) (λ c. search (rules, get_d_part)))

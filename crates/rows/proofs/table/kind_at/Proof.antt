@@ -7,6 +7,6 @@ use Rattle.rows.proofs.Written.{get_d_part}
 use Rattle.rows.proofs.table.kind_at.Statement.{statement}
 use Rattle.rows.proofs.table.kind_at.Tie as tie
 
-pub kind-at-spec : {M : Type 1} → statement M
+pub kind_at_spec : {M : Type 1} → statement M
 unfolding row_width row_of row_at
-kind-at-spec = tie.close (tie.spec (λ c. search rules) (λ c. search rules) (λ c. search rules) (λ c. search (rules, get_d_part)))
+kind_at_spec = tie.close (tie.spec (λ c. search rules) (λ c. search rules) (λ c. search rules) (λ c. search (rules, get_d_part)))

@@ -9,9 +9,9 @@ use Rattle.rows.proofs.table.put_row.Tie as tie
 
 returns : tie.Need-returns
 unfolding put row_numbers
-returns c = c.before.copy.ensures ∙ rw c.before.before.before.before.row-numbers.ensures
+returns c = c.copy.ensures ∙ rw c.row_numbers-numbers.ensures
 
-pub put-row-spec : {M : Type 1} → statement M
+pub put_row_spec : {M : Type 1} → statement M
 unfolding row_width
-put-row-spec =
+put_row_spec =
     tie.close (tie.spec (λ c κs. search rules) (λ c. search rules) (λ c κs. search rules) (λ c. search rules) returns)

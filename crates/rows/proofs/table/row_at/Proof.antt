@@ -11,13 +11,12 @@ use Rattle.rows.proofs.table.row_at.Tie as tie
 returns : tie.Need-returns
 unfolding row_width row_at
 returns c =
-    let at = c.before.before.args.at in
-    let k : at + row_width - at ≡ row_width = omega arith in
+    let k : c.args.at + row_width - c.args.at ≡ row_width = omega arith in
     c.row_of.ensures ∙ rw k
 
-pub row-at-spec : {M : Type 1} → statement M
+pub row_at_spec : {M : Type 1} → statement M
 unfolding row_width
-row-at-spec =
+row_at_spec =
     tie.close
     (tie.spec
     (λ c. search rules)

@@ -8,23 +8,20 @@ use Rattle.rows.proofs.Answers.{part-whole}
 use Rattle.shown.proofs.calls.shown.Statement.{statement}
 use Rattle.shown.proofs.calls.shown.Tie as tie
 
-returns : tie.Need-returns
+returns : tie.Need-returns-then-number-ne-ACCEPTED
 unfolding part_call shown_call
 returns c =
-    let part = c.before.row-part in
-    let refused = ne_eqb part.new.1.1.0 accepted c.if1.true in
-    rw (← part.ensures.number) (record { says = rw refused; shows = rw refused })
+    let refused = ne_eqb c.row_part-part.new.number accepted c.if-number-ne-ACCEPTED.true in
+    rw (← c.row_part-part.ensures.number) (record { says = rw refused; shows = rw refused })
 
-row-of-requires : tie.Need-row-of-requires
-row-of-requires c κs = (part-whole _ _ c.before.row-part.ensures c.if1.false).1
+row-of-requires : tie.Need-row_of-requires
+row-of-requires c κs = (part-whole _ _ c.row_part-part.ensures c.if-number-ne-ACCEPTED.false).1
 
-returns-2 : tie.Need-returns-2
+returns-2 : tie.Need-returns
 unfolding part_call shown_call
 returns-2 c =
-    let whole = c.before.before in
-    let part = whole.before.row-part in
-    rw (← part.ensures.number, whole.if1.false)
-    (record { says = rw (c.Shown-of.ensures, c.before.row_of.ensures, (part-whole _ _ part.ensures whole.if1.false).0); shows = refl })
+    rw (← c.row_part-part.ensures.number, c.if-number-ne-ACCEPTED.false)
+    (record { says = rw (c.shown_of.ensures, c.row_of.ensures, (part-whole _ _ c.row_part-part.ensures c.if-number-ne-ACCEPTED.false).0); shows = refl })
 
-pub shown-spec : {M : Type 1} → statement M
-shown-spec = tie.close (tie.spec (λ c κs. search rules) returns row-of-requires (λ c κs. search rules) returns-2)
+pub shown_spec : {M : Type 1} → statement M
+shown_spec = tie.close (tie.spec (λ c κs. search rules) returns row-of-requires (λ c κs. search rules) returns-2)

@@ -7,13 +7,13 @@ use Rattle.rows.proofs.Tests.{bits-silent}
 use Rattle.shown.proofs.view.gain_of.Statement.{statement}
 use Rattle.shown.proofs.view.gain_of.Tie as tie
 
-returns : tie.Need-returns
+returns : tie.Need-returns-then-gain-eq-SILENCE
 unfolding shown_gain
-returns c = rw (sym (bits-silent c.before.args.gain (search rules)) ∙ eq-eqb _ _ c.if1.true)
+returns c = rw (sym (bits-silent c.args.gain (search rules)) ∙ eq-eqb _ _ c.if-gain-eq-SILENCE.true)
 
-returns-2 : tie.Need-returns-2
+returns-2 : tie.Need-returns
 unfolding shown_gain
-returns-2 c = rw (sym (bits-silent c.before.before.args.gain (search rules)) ∙ ne_eqb _ _ c.before.if1.false) (search rules)
+returns-2 c = rw (sym (bits-silent c.args.gain (search rules)) ∙ ne_eqb _ _ c.if-gain-eq-SILENCE.false) (search rules)
 
-pub gain-of-spec : {M : Type 1} → statement M
-gain-of-spec = tie.close (tie.spec returns (λ c. search rules) returns-2)
+pub gain_of_spec : {M : Type 1} → statement M
+gain_of_spec = tie.close (tie.spec returns (λ c. search rules) returns-2)

@@ -9,22 +9,19 @@ use Rattle.rows.proofs.Tests.{bits_is}
 use Rattle.shown.proofs.view.place_of.Statement.{statement}
 use Rattle.shown.proofs.view.place_of.Tie as tie
 
-returns : tie.Need-returns
+returns : tie.Need-returns-then-row-eq-LFE
 unfolding shown of_bits neg
 returns c =
-    let row = c.before.before.before.args.row in
-    rw (sym (bits_is 0 row.kind (omega arith) (search rules)) ∙ eq-eqb _ _ c.if1.true) (record { x = refl; y = refl; z = refl })
+    rw (sym (bits_is 0 c.args.row.kind (omega arith) (search rules)) ∙ eq-eqb _ _ c.if-row-eq-LFE.true) (record { x = refl; y = refl; z = refl })
 
-returns-2 : tie.Need-returns-2
+returns-2 : tie.Need-returns
 unfolding shown
 returns-2 c =
-    let lfe = c.before.before.before.before.before.before.before in
-    let row = lfe.before.before.before.args.row in
-    rw (sym (bits_is 0 row.kind (omega arith) (search rules)) ∙ ne_eqb _ _ lfe.if1.false)
+    rw (sym (bits_is 0 c.args.row.kind (omega arith) (search rules)) ∙ ne_eqb _ _ c.if-row-eq-LFE.false)
     (record { x = search rules; y = search rules; z = search rules })
 
-pub place-of-spec : {M : Type 1} → statement M
-place-of-spec =
+pub place_of_spec : {M : Type 1} → statement M
+place_of_spec =
     tie.close
     (tie.spec
     returns

@@ -7,12 +7,10 @@ use Rattle.shown.proofs.view.shown_of.Tie as tie
 returns : tie.Need-returns
 unfolding shown
 returns c =
-    let gain = c.before.before.before.before.before.before.before.before in
-    let place = gain.before.before.before.place_of.ensures in
-    search (rules, place.x, place.y, place.z, gain.gain-of.ensures)
+    search (rules, c.place_of-place.ensures.x, c.place_of-place.ensures.y, c.place_of-place.ensures.z, c.gain_of-gain.ensures)
 
-pub shown-of-spec : {M : Type 1} → statement M
-shown-of-spec =
+pub shown_of_spec : {M : Type 1} → statement M
+shown_of_spec =
     tie.close
     (tie.spec
     (λ c κs. search rules)

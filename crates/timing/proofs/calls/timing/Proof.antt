@@ -6,17 +6,17 @@ use Rattle.standard.specs.Calls.{timing_call}
 use Rattle.timing.proofs.calls.timing.Statement.{statement}
 use Rattle.timing.proofs.calls.timing.Tie as tie
 
-returns : tie.Need-returns
+returns : tie.Need-returns-then-blocks-gt-BLOCK_LIMIT
 unfolding timing_call block_limit
-returns c = rw (lt-leb _ _ c.if1.true)
+returns c = rw (lt-leb _ _ c.if-blocks-gt-BLOCK_LIMIT.true)
 
-returns-2 : tie.Need-returns-2
+returns-2 : tie.Need-returns-then-timings-blocks
 unfolding timing_call block_limit
-returns-2 c = rw (le-leb _ _ c.before.if1.false, lt-leb _ _ c.if2.true)
+returns-2 c = rw (le-leb _ _ c.if-blocks-gt-BLOCK_LIMIT.false, lt-leb _ _ c.if-timings-blocks.true)
 
-returns-3 : tie.Need-returns-3
+returns-3 : tie.Need-returns
 unfolding timing_call block_limit
-returns-3 c = rw (le-leb _ _ c.before.before.if1.false, le-leb _ _ c.before.if2.false) c.test-in-frame.ensures
+returns-3 c = rw (le-leb _ _ c.if-blocks-gt-BLOCK_LIMIT.false, le-leb _ _ c.if-timings-blocks.false) c.test_in_frame.ensures
 
-pub timing-spec : {M : Type 1} → statement M
-timing-spec = tie.close (tie.spec returns (λ c. search rules) returns-2 (λ c κs. search rules) returns-3)
+pub timing_spec : {M : Type 1} → statement M
+timing_spec = tie.close (tie.spec returns (λ c. search rules) returns-2 (λ c κs. search rules) returns-3)

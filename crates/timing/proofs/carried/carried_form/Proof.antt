@@ -14,31 +14,29 @@ use Rattle.timing.proofs.carried.carried_form.Statement.{statement}
 use Rattle.timing.proofs.carried.carried_form.Tie as tie
 
 -- the numbers passed
-passed : (c : tie.Else1) → going_form (going_said c.before.before.args.going) rule2 ≡ true
-passed c = sym c.before.going-form.ensures ∙ not-false _ c.if1.false
+passed : (c : tie.Else-not-going_form) → going_form (going_said c.args.going) rule2 ≡ true
+passed c = sym c.going_form.ensures ∙ not-false _ c.if-not-going_form.false-raw
 
-returns : tie.Need-returns
+returns : tie.Need-returns-then-not-going_form
 unfolding carried_form
-returns c = rw (← c.before.going-form.ensures, not-true c.before.going-form.result c.if1.true)
+returns c = rw (← c.going_form.ensures, not-true c.going_form.result c.if-not-going_form.true-raw)
 
-returns-2 : tie.Need-returns-2
+returns-2 : tie.Need-returns-then-going-eq0
 unfolding carried_form
-returns-2 c = rw (passed c.before.before, eq-eqb _ _ c.if2.true)
+returns-2 c = rw (passed c.before.before, eq-eqb _ _ c.if-going-eq0.true)
 
-all-shown-requires : tie.Need-all-shown-requires
+all-shown-requires : tie.Need-all_shown-requires
 unfolding row_width object_limit start_length
 all-shown-requires c κs =
-    let e = c.before in
-    ⊎_elim (λ z. absurd (e.if2.false z)) (λ k. omega (arith, k.1, c.before.before.before.before.before.requires)) (form-means _ (passed e.before.before))
+    ⊎_elim (λ z. absurd (c.if-going-eq0.false z)) (λ k. omega (arith, k.1, c.requires)) (form-means _ (passed c.before.before.before))
 
-returns-3 : tie.Need-returns-3
+returns-3 : tie.Need-returns
 unfolding carried_form
 returns-3 c =
-    let e = c.before.before in
-    rw (passed e.before.before, ne_eqb _ _ e.if2.false) c.all_shown.ensures
+    rw (passed c.before.before.before.before, ne_eqb _ _ c.if-going-eq0.false) c.all_shown.ensures
 
-pub carried-form-spec : {M : Type 1} → statement M
-carried-form-spec =
+pub carried_form_spec : {M : Type 1} → statement M
+carried_form_spec =
     tie.close
     (tie.spec
     (λ c κs. search rules)

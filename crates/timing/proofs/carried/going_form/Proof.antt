@@ -10,5 +10,5 @@ returns : tie.Need-returns
 unfolding going_form object_limit
 returns c = refl
 
-pub going-form-spec : {M : Type 1} → statement M
-going-form-spec = tie.close (tie.spec (λ c. search rules) returns)
+pub going_form_spec : {M : Type 1} → statement M
+going_form_spec = tie.close (tie.spec (λ c. search rules) returns)

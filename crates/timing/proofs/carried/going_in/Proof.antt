@@ -6,16 +6,16 @@ use Rattle.timing.specs.Going.{whole}
 use Rattle.timing.proofs.carried.going_in.Statement.{statement}
 use Rattle.timing.proofs.carried.going_in.Tie as tie
 
-returns : tie.Need-returns
+returns : tie.Need-returns-then-state-eq0
 unfolding whole
-returns c = rw (eq-eqb _ _ c.before.if1.true) c.nothing.ensures
+returns c = rw (eq-eqb _ _ c.if-state-eq0.true) c.nothing.ensures
 
-returns-2 : tie.Need-returns-2
+returns-2 : tie.Need-returns
 unfolding whole
-returns-2 c = rw (ne_eqb _ _ c.before.before.before.if1.false) refl
+returns-2 c = rw (ne_eqb _ _ c.if-state-eq0.false) refl
 
-pub going-in-spec : {M : Type 1} → statement M
-going-in-spec =
+pub going_in_spec : {M : Type 1} → statement M
+going_in_spec =
     tie.close
     (tie.spec
     (λ c. search rules)

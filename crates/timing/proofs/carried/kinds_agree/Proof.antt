@@ -10,34 +10,30 @@ use Rattle.timing.proofs.Agreeing.{Agreeing, agree-none, agree-kind, agree-not, 
 use Rattle.timing.proofs.carried.kinds_agree.Statement.{statement}
 use Rattle.timing.proofs.carried.kinds_agree.Tie as tie
 
-abbrev invariant-loop : tie.invariant-loop
+abbrev invariant-loop : tie.invariant-loop-object
 invariant-loop carried start objects object₀ object = Agreeing carried start objects object
 
-abbrev decreases-loop : tie.decreases-loop
+abbrev decreases-loop : tie.decreases-loop-object
 decreases-loop carried start objects object₀ object = objects - object
 
-returns : tie.Need-returns invariant-loop decreases-loop
+returns : tie.Need-returns-then-kind_at invariant-loop decreases-loop
 unfolding row_width
 returns c =
-    let k = c.before in
-    let turn = k.before.before in
-    agree-not turn.before.loop.invariant turn.loop-test.true
-    (rw (← k.before.kind_at.ensures, ← k.kind-at2.ensures) (sym (bits-same k.before.kind_at.result k.kind-at2.result k.before.kind_at.type-inv k.kind-at2.type-inv) ∙ ne_eqb _ _ c.if1.true))
+    agree-not c.loop-object.invariant c.loop-object-test.true
+    (rw (← c.kind_at.ensures, ← c.kind_at-in-loop-object.ensures) (sym (bits-same c.kind_at.result c.kind_at-in-loop-object.result c.kind_at.type_inv c.kind_at-in-loop-object.type_inv) ∙ ne_eqb _ _ c.if-kind_at.true))
 
-loop-again : tie.Need-loop-preserved invariant-loop decreases-loop
+loop-again : tie.Need-loop-object-preserved invariant-loop decreases-loop
 unfolding row_width
 loop-again c =
-    let k = c.before in
-    let turn = k.before.before in
-    agree-kind turn.before.loop.invariant turn.loop-test.true
-    (rw (← k.before.kind_at.ensures, ← k.kind-at2.ensures) (sym (bits-same k.before.kind_at.result k.kind-at2.result k.before.kind_at.type-inv k.kind-at2.type-inv) ∙ eq-eqb _ _ c.if1.false))
+    agree-kind c.loop-object.invariant c.loop-object-test.true
+    (rw (← c.kind_at.ensures, ← c.kind_at-in-loop-object.ensures) (sym (bits-same c.kind_at.result c.kind_at-in-loop-object.result c.kind_at.type_inv c.kind_at-in-loop-object.type_inv) ∙ eq-eqb _ _ c.if-kind_at.false))
 
-returns-2 : tie.Need-returns-2 invariant-loop decreases-loop
-returns-2 c = agree-all c.before.loop.invariant c.loop-test.false
+returns-2 : tie.Need-returns invariant-loop decreases-loop
+returns-2 c = agree-all c.loop-object.invariant c.loop-object-test.false
 
-pub kinds-agree-spec : {M : Type 1} → statement M
+pub kinds_agree_spec : {M : Type 1} → statement M
 unfolding row_width
-kinds-agree-spec =
+kinds_agree_spec =
     tie.close
     (tie.spec
     invariant-loop

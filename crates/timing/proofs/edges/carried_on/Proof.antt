@@ -10,23 +10,21 @@ use Rattle.timing.proofs.Over.{carried-last, starts-within}
 use Rattle.timing.proofs.edges.carried_on.Statement.{statement}
 use Rattle.timing.proofs.edges.carried_on.Tie as tie
 
-returns : tie.Need-returns
+returns : tie.Need-returns-then-blocks-eq0
 unfolding carried_by timings_of
-returns c = λ l rows e. rw c.before.if1.true (c.onward.ensures l)
+returns c = λ l rows e. rw c.if-blocks-eq0.true (c.onward.ensures l)
 
-over-edge-requires : tie.Need-over-edge-requires
+over-edge-requires : tie.Need-over_edge-requires
 over-edge-requires c κs =
-    let p = c.before.before.before.requires in
-    let w = starts-within _ _ c.before.if1.false p.passed.0 p.passed.1 in
-    (subst (λ (t : Timing). t.start ≤ frame_length) (sym c.timing-at.ensures) w, p.few)
+    let w = starts-within _ _ c.if-blocks-eq0.false c.requires.passed.0 c.requires.passed.1 in
+    (subst (λ (t : Timing). t.start ≤ frame_length) (sym c.timing_at.ensures) w, c.requires.few)
 
-returns-2 : tie.Need-returns-2
+returns-2 : tie.Need-returns
 returns-2 c =
-    let read = c.before in
-    λ l rows e. rw (carried-last _ _ read.before.if1.false _ rows, ← read.timing-at.ensures) (c.over-edge.ensures rows e)
+    λ l rows e. rw (carried-last _ _ c.if-blocks-eq0.false _ rows, ← c.timing_at.ensures) (c.over_edge.ensures rows e)
 
-pub carried-on-spec : {M : Type 1} → statement M
-carried-on-spec =
+pub carried_on_spec : {M : Type 1} → statement M
+carried_on_spec =
     tie.close
     (tie.spec
     (λ c κs. search rules)

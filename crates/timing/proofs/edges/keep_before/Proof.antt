@@ -23,34 +23,30 @@ fits : (c : tie.Start) → c.args.objects * row_width ≤ start_length
 unfolding row_width object_limit start_length
 fits c = omega (arith, c.requires.few)
 
-returns : tie.Need-returns
+returns : tie.Need-returns-then-blocks-lt2
 unfolding row_width table_rows
 returns c =
-    let t = c.before.before.before in
-    let p = t.before.requires in
-    let e : t.before.args.blocks - 1 ≡ 0 = omega (arith, t.if1.true) in
-    rw e (c.before.copy.ensures ∙ rows-copied t.before.args.objects 0 t.before.args.start.now _ (omega (arith, p.starts, fits t.before)) (omega (arith, p.room, fits t.before)))
+    let e : c.args.blocks - 1 ≡ 0 = omega (arith, c.if-blocks-lt2.true) in
+    rw e (c.copy.ensures ∙ rows-copied c.args.objects 0 c.args.start.now _ (omega (arith, c.requires.starts, fits c.before.before.before.before)) (omega (arith, c.requires.room, fits c.before.before.before.before)))
 
-returns-2 : tie.Need-returns-2
+returns-2 : tie.Need-returns
 unfolding row_width table_rows
 returns-2 c =
-    let t = c.before.before.before in
-    let p = t.before.requires in
-    let e : t.before.args.blocks - 1 ≡ suc (t.before.args.blocks - 2) = omega (arith, t.if1.false) in
-    rw e (c.before.copy2.ensures ∙ rows-copied t.before.args.objects ((t.before.args.blocks - 2) * t.before.args.objects * row_width) t.before.args.block-rows.now _ (omega (arith, p.in_blocks, ends t.before)) (omega (arith, p.room, fits t.before)))
+    let e : c.args.blocks - 1 ≡ suc (c.args.blocks - 2) = omega (arith, c.if-blocks-lt2.false) in
+    rw e (c.copy-2.ensures ∙ rows-copied c.args.objects ((c.args.blocks - 2) * c.args.objects * row_width) c.args.block_rows.now _ (omega (arith, c.requires.in_blocks, ends c.before.before.before.before)) (omega (arith, c.requires.room, fits c.before.before.before.before)))
 
-pub keep-before-spec : {M : Type 1} → statement M
+pub keep_before_spec : {M : Type 1} → statement M
 unfolding row_width object_limit start_length blocks_length
-keep-before-spec =
+keep_before_spec =
     tie.close
     (tie.spec
     (λ c. omega (arith, fits c))
-    (λ c κs. (omega (arith, c.before.before.requires.starts, fits c.before.before), omega (arith, c.before.before.requires.room, fits c.before.before)))
+    (λ c κs. (omega (arith, c.requires.starts, fits c.before.before), omega (arith, c.requires.room, fits c.before.before)))
     (λ c. search rules)
     returns
     (λ c. omega arith)
     (λ c. omega (arith, ends c.before))
     (λ c. omega (arith, ends c.before))
-    (λ c κs. (omega (arith, c.before.before.requires.in_blocks, ends c.before.before), omega (arith, c.before.before.requires.room, fits c.before.before)))
+    (λ c κs. (omega (arith, c.requires.in_blocks, ends c.before.before), omega (arith, c.requires.room, fits c.before.before)))
     (λ c. search rules)
     returns-2)

@@ -6,16 +6,16 @@ use Rattle.timing.proofs.Over.{on-running, on-ended}
 use Rattle.timing.proofs.edges.onward.Statement.{statement}
 use Rattle.timing.proofs.edges.onward.Tie as tie
 
-returns : tie.Need-returns
+returns : tie.Need-returns-then-elapsed-going
 unfolding frame_length
-returns c = λ l. on-running _ l c.if1.true
+returns c = λ l. on-running _ l c.if-elapsed-going.true
 
-returns-2 : tie.Need-returns-2
+returns-2 : tie.Need-returns
 unfolding frame_length
-returns-2 c = λ l. c.nothing.ensures ∙ on-ended _ l c.before.if1.false
+returns-2 c = λ l. c.nothing.ensures ∙ on-ended _ l c.if-elapsed-going.false
 
-pub onward-spec : {M : Type 1} → statement M
-onward-spec =
+pub onward_spec : {M : Type 1} → statement M
+onward_spec =
     tie.close
     (tie.spec
     (λ c. search rules)

@@ -10,42 +10,36 @@ use Rattle.timing.proofs.Turns.{Reached, begin, decided, onward, ended}
 use Rattle.timing.proofs.ramps.choose.Statement.{statement}
 use Rattle.timing.proofs.ramps.choose.Tie as tie
 
-abbrev invariant-loop : tie.invariant-loop
+abbrev invariant-loop : tie.invariant-loop-block
 invariant-loop timings blocks sample block₀ block = Reached (walk sample) 0 timings blocks block block
 
-abbrev decreases-loop : tie.decreases-loop
+abbrev decreases-loop : tie.decreases-loop-block
 decreases-loop timings blocks sample block₀ block = blocks - block
 
-returns : tie.Need-returns invariant-loop decreases-loop
+returns : tie.Need-returns-then-sample-timing invariant-loop decreases-loop
 unfolding choice walk
 returns c =
-    let read = c.before.before.before in
     c.still.ensures
-    ∙ sym (decided read.before.before.loop.invariant read.timing-at.ensures read.before.loop-test.true (rw (lt-ltb _ _ c.before.if1.true)))
+    ∙ sym (decided c.loop-block.invariant c.timing_at-timing.ensures c.loop-block-test.true (rw (lt-ltb _ _ c.if-sample-timing.true)))
 
-returns-2 : tie.Need-returns-2 invariant-loop decreases-loop
+returns-2 : tie.Need-returns-then-elapsed-timing invariant-loop decreases-loop
 unfolding choice walk
 returns-2 c =
-    let start = c.before.before.before in
-    let read = start.before.before in
     sym
-    (decided read.before.before.loop.invariant read.timing-at.ensures read.before.loop-test.true
-    (rw (le-ltb _ _ start.if1.false, ne_eqb read.timing-at.result.ramp_duration 0 (λ z. omega arith), lt-leb _ _ c.if2.true, add-one)))
+    (decided c.loop-block.invariant c.timing_at-timing.ensures c.loop-block-test.true
+    (rw (le-ltb _ _ c.if-sample-timing.false, ne_eqb c.timing_at-timing.result.ramp_duration 0 (λ z. omega arith), lt-leb _ _ c.if-elapsed-timing.true, add-one)))
 
-loop-again : tie.Need-loop-preserved invariant-loop decreases-loop
+loop-again : tie.Need-loop-block-preserved invariant-loop decreases-loop
 unfolding walk
 loop-again c =
-    let start = c.before.before.before in
-    let read = start.before.before in
-    onward read.before.before.loop.invariant read.timing-at.ensures read.before.loop-test.true
-    (rw (le-ltb _ _ start.if1.false, le-leb _ _ c.if2.false, or-true, add-one))
+    onward c.loop-block.invariant c.timing_at-timing.ensures c.loop-block-test.true
+    (rw (le-ltb _ _ c.if-sample-timing.false, le-leb _ _ c.if-elapsed-timing.false, or-true, add-one))
 
-returns-3 : tie.Need-returns-3 invariant-loop decreases-loop
+returns-3 : tie.Need-returns invariant-loop decreases-loop
 unfolding choice walk
 returns-3 c =
-    let loop = c.before.before.loop in
-    let e : loop.block ≡ c.before.before.before.before.args.blocks = omega arith in
-    c.still2.ensures ∙ sym (ended loop.invariant c.before.loop-test.false ∙ rw e)
+    let e : c.loop-block.block ≡ c.args.blocks = omega arith in
+    c.still-2.ensures ∙ sym (ended c.loop-block.invariant c.loop-block-test.false ∙ rw e)
 
 pub choose_spec : {M : Type 1} → statement M
 choose_spec =
@@ -53,7 +47,7 @@ choose_spec =
     (tie.spec
     invariant-loop
     decreases-loop
-    (λ c. begin 0 c.before.args.timings.now c.before.args.blocks)
+    (λ c. begin 0 c.args.timings.now c.args.blocks)
     (λ c κs. omega arith)
     (λ c κs. tt)
     returns

@@ -6,16 +6,16 @@ use Rattle.standard.specs.Carried.{carried_row, choice_by}
 use Rattle.timing.proofs.ramps.choose_going.Statement.{statement}
 use Rattle.timing.proofs.ramps.choose_going.Tie as tie
 
-returns : tie.Need-returns
+returns : tie.Need-returns-then-elapsed-going
 unfolding carried_row choice_by
-returns c = rw (lt-ltb _ _ c.if1.true) refl
+returns c = rw (lt-ltb _ _ c.if-elapsed-going.true) refl
 
-returns-2 : tie.Need-returns-2
+returns-2 : tie.Need-returns
 unfolding choice_by
-returns-2 c = rw (le-ltb _ _ c.before.if1.false) c.choose.ensures
+returns-2 c = rw (le-ltb _ _ c.if-elapsed-going.false) c.choose.ensures
 
-pub choose-going-spec : {M : Type 1} → statement M
-choose-going-spec =
+pub choose_going_spec : {M : Type 1} → statement M
+choose_going_spec =
     tie.close
     (tie.spec
     (λ c. search rules)

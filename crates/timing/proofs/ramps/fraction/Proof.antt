@@ -10,8 +10,7 @@ use Rattle.timing.proofs.ramps.fraction.Tie as tie
 returns : tie.Need-returns
 unfolding fraction
 returns c =
-    let s = c.before.before in
-    record { quotient = refl; below = fraction-below (choice_said s.args.choice) (search rules) s.requires (search rules) }
+    record { quotient = refl; below = fraction-below (choice_said c.args.choice) (search rules) c.requires (search rules) }
 
-pub fraction-spec : {M : Type 1} → statement M
-fraction-spec = tie.close (tie.spec (λ c. search rules) (λ c. search rules) returns)
+pub fraction_spec : {M : Type 1} → statement M
+fraction_spec = tie.close (tie.spec (λ c. search rules) (λ c. search rules) returns)

@@ -12,59 +12,53 @@ use Rattle.standard.proofs.RampPlaces.{some-duration}
 use Rattle.timing.proofs.ramps.ramp_going.Statement.{statement}
 use Rattle.timing.proofs.ramps.ramp_going.Tie as tie
 
-returns : tie.Need-returns
+returns : tie.Need-returns-then-sample-ge-SAMPLES_PER_JOC_FRAME
 unfolding rule_of tested ramp_by_rule frame_length
-returns c = rw (le-ltb _ _ c.if1.true) (record { says = refl; chosen = refl; rounded = tt })
+returns c = rw (le-ltb _ _ c.if-sample-ge-SAMPLES_PER_JOC_FRAME.true) (record { says = refl; chosen = refl; rounded = tt })
 
-returns-2 : tie.Need-returns-2
+returns-2 : tie.Need-returns-then-blocks-gt-BLOCK_LIMIT
 unfolding rule_of tested ramp_by_rule frame_length block_limit
-returns-2 c = rw (lt-ltb _ _ c.before.if1.false, lt-leb _ _ c.if2.true) (record { says = refl; chosen = refl; rounded = tt })
+returns-2 c = rw (lt-ltb _ _ c.if-sample-ge-SAMPLES_PER_JOC_FRAME.false, lt-leb _ _ c.if-blocks-gt-BLOCK_LIMIT.true) (record { says = refl; chosen = refl; rounded = tt })
 
-returns-3 : tie.Need-returns-3
+returns-3 : tie.Need-returns-then-timings-blocks
 unfolding rule_of tested ramp_by_rule frame_length block_limit
 returns-3 c =
-    rw (lt-ltb _ _ c.before.before.if1.false, le-leb _ _ c.before.if2.false, lt-leb _ _ c.if3.true)
+    rw (lt-ltb _ _ c.if-sample-ge-SAMPLES_PER_JOC_FRAME.false, le-leb _ _ c.if-blocks-gt-BLOCK_LIMIT.false, lt-leb _ _ c.if-timings-blocks.true)
     (record { says = refl; chosen = refl; rounded = tt })
 
-returns-4 : tie.Need-returns-4
+returns-4 : tie.Need-returns-then-not-going_form
 unfolding rule_of tested ramp_by_rule frame_length block_limit
 returns-4 c =
-    let f = c.before in
-    let asked = f.before in
     rw (
-      lt-ltb _ _ asked.before.before.if1.false,
-      le-leb _ _ asked.before.if2.false,
-      le-leb _ _ asked.if3.false,
-      ← f.going-form.ensures,
-      not-true f.going-form.result c.if4.true,
+      lt-ltb _ _ c.if-sample-ge-SAMPLES_PER_JOC_FRAME.false,
+      le-leb _ _ c.if-blocks-gt-BLOCK_LIMIT.false,
+      le-leb _ _ c.if-timings-blocks.false,
+      ← c.going_form.ensures,
+      not-true c.going_form.result c.if-not-going_form.true-raw,
     )
     (record { says = refl; chosen = refl; rounded = tt })
 
-fraction-requires : tie.Need-fraction-requires
+fraction-requires : tie.Need-fraction-alpha-requires
 fraction-requires c κs =
-    let a = c.before.before.before.before.before.before.before.args in
-    let some = some-duration rule2 a.going.elapsed a.going.duration a.sample (timings_of a.blocks a.timings.now) in
-    rw (← c.choose-going.ensures) at some
+    let some = some-duration rule2 c.args.going.elapsed c.args.going.duration c.args.sample (timings_of c.args.blocks c.args.timings.now) in
+    rw (← c.choose_going-choice.ensures) at some
 
-returns-5 : tie.Need-returns-5
+returns-5 : tie.Need-returns
 unfolding rule_of tested ramp_by_rule ramp_under frame_length block_limit
 returns-5 c =
-    let passed = c.before.before in
-    let f = passed.before in
-    let asked = f.before in
     rw (
-      lt-ltb _ _ asked.before.before.if1.false,
-      le-leb _ _ asked.before.if2.false,
-      le-leb _ _ asked.if3.false,
-      ← f.going-form.ensures,
-      not-false f.going-form.result passed.if4.false,
-      ← c.before.choose-going.ensures,
-      ← c.fraction.ensures.quotient,
+      lt-ltb _ _ c.if-sample-ge-SAMPLES_PER_JOC_FRAME.false,
+      le-leb _ _ c.if-blocks-gt-BLOCK_LIMIT.false,
+      le-leb _ _ c.if-timings-blocks.false,
+      ← c.going_form.ensures,
+      not-false c.going_form.result c.if-not-going_form.false-raw,
+      ← c.choose_going-choice.ensures,
+      ← c.fraction-alpha.ensures.quotient,
     )
-    (record { says = refl; chosen = refl; rounded = c.fraction.ensures })
+    (record { says = refl; chosen = refl; rounded = c.fraction-alpha.ensures })
 
-pub ramp-going-spec : {M : Type 1} → statement M
-ramp-going-spec =
+pub ramp_going_spec : {M : Type 1} → statement M
+ramp_going_spec =
     tie.close
     (tie.spec
     returns

@@ -4,6 +4,6 @@ use Rattle.standard.specs.Ramps.{still}
 use Rattle.timing.proofs.ramps.still.Statement.{statement}
 use Rattle.timing.proofs.ramps.still.Tie as tie
 
-pub still-spec : {M : Type 1} → statement M
+pub still_spec : {M : Type 1} → statement M
 unfolding still
-still-spec = tie.close (tie.spec (λ c. search rules))
+still_spec = tie.close (tie.spec (λ c. search rules))

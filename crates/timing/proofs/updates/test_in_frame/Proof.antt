@@ -5,13 +5,13 @@ use Rattle.standard.specs.Timing.{timing_test}
 use Rattle.timing.proofs.updates.test_in_frame.Statement.{statement}
 use Rattle.timing.proofs.updates.test_in_frame.Tie as tie
 
-returns : tie.Need-returns
+returns : tie.Need-returns-then-not-starts_rise
 unfolding timing_test
-returns c = rw (← c.before.starts-rise.ensures, not-true c.before.starts-rise.result c.if1.true)
+returns c = rw (← c.starts_rise.ensures, not-true c.starts_rise.result c.if-not-starts_rise.true-raw)
 
-returns-2 : tie.Need-returns-2
+returns-2 : tie.Need-returns
 unfolding timing_test
-returns-2 c = rw (← c.before.before.starts-rise.ensures, not-false c.before.before.starts-rise.result c.before.if1.false) c.validate-oamd-timing.ensures
+returns-2 c = rw (← c.starts_rise.ensures, not-false c.starts_rise.result c.if-not-starts_rise.false-raw) c.validate_oamd_timing.ensures
 
-pub test-in-frame-spec : {M : Type 1} → statement M
-test-in-frame-spec = tie.close (tie.spec (λ c κs. search rules) returns (λ c κs. search rules) returns-2)
+pub test_in_frame_spec : {M : Type 1} → statement M
+test_in_frame_spec = tie.close (tie.spec (λ c κs. search rules) returns (λ c κs. search rules) returns-2)

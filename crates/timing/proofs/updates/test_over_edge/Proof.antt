@@ -5,13 +5,13 @@ use Rattle.standard.specs.Carried.{timing_by}
 use Rattle.timing.proofs.updates.test_over_edge.Statement.{statement}
 use Rattle.timing.proofs.updates.test_over_edge.Tie as tie
 
-returns : tie.Need-returns
+returns : tie.Need-returns-then-not-starts_rise
 unfolding timing_by
-returns c = rw (← c.before.starts-rise.ensures, not-true c.before.starts-rise.result c.if1.true)
+returns c = rw (← c.starts_rise.ensures, not-true c.starts_rise.result c.if-not-starts_rise.true-raw)
 
-returns-2 : tie.Need-returns-2
+returns-2 : tie.Need-returns
 unfolding timing_by
-returns-2 c = rw (← c.before.before.starts-rise.ensures, not-false c.before.before.starts-rise.result c.before.if1.false) c.validate-following.ensures
+returns-2 c = rw (← c.starts_rise.ensures, not-false c.starts_rise.result c.if-not-starts_rise.false-raw) c.validate_following.ensures
 
-pub test-over-edge-spec : {M : Type 1} → statement M
-test-over-edge-spec = tie.close (tie.spec (λ c κs. search rules) returns (λ c κs. search rules) returns-2)
+pub test_over_edge_spec : {M : Type 1} → statement M
+test_over_edge_spec = tie.close (tie.spec (λ c κs. search rules) returns (λ c κs. search rules) returns-2)

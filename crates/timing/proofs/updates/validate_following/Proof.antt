@@ -10,43 +10,37 @@ use Rattle.timing.proofs.Rules.{early, late, follows}
 use Rattle.timing.proofs.updates.validate_following.Statement.{statement}
 use Rattle.timing.proofs.updates.validate_following.Tie as tie
 
-abbrev invariant-loop : tie.invariant-loop
-invariant-loop timings blocks end end-before₀ block₀ end_Before block = Reached following end timings blocks end_Before block
+abbrev invariant-loop : tie.invariant-loop-block
+invariant-loop timings blocks end end_before₀ block₀ end_before block = Reached following end timings blocks end_before block
 
-abbrev decreases-loop : tie.decreases-loop
-decreases-loop timings blocks end end-before₀ block₀ end_Before block = blocks - block
+abbrev decreases-loop : tie.decreases-loop-block
+decreases-loop timings blocks end end_before₀ block₀ end_before block = blocks - block
 
-returns : tie.Need-returns invariant-loop decreases-loop
+returns : tie.Need-returns-then-start-end_before invariant-loop decreases-loop
 returns c =
-    let read = c.before.before in
-    let turn = read.before in
-    sym (decided turn.before.loop.invariant read.timing-at.ensures turn.loop-test.true (early _ _ _ c.if1.true))
+    sym (decided c.loop-block.invariant c.timing_at-timing.ensures c.loop-block-test.true (early _ _ _ c.if-start-end_before.true))
 
-returns-2 : tie.Need-returns-2 invariant-loop decreases-loop
+returns-2 : tie.Need-returns-then-start-gt-SAMPLES_PER_JOC_FRAME invariant-loop decreases-loop
 unfolding frame_length
 returns-2 c =
-    let read = c.before.before.before in
-    let turn = read.before in
-    sym (decided turn.before.loop.invariant read.timing-at.ensures turn.loop-test.true (late _ _ _ c.before.if1.false c.if2.true))
+    sym (decided c.loop-block.invariant c.timing_at-timing.ensures c.loop-block-test.true (late _ _ _ c.if-start-end_before.false c.if-start-gt-SAMPLES_PER_JOC_FRAME.true))
 
-loop-again : tie.Need-loop-preserved invariant-loop decreases-loop
+loop-again : tie.Need-loop-block-preserved invariant-loop decreases-loop
 unfolding frame_length
 loop-again c =
-    let read = c.before.before.before.before in
-    let turn = read.before in
-    onward turn.before.loop.invariant read.timing-at.ensures turn.loop-test.true (follows _ _ _ c.before.before.if1.false c.before.if2.false)
+    onward c.loop-block.invariant c.timing_at-timing.ensures c.loop-block-test.true (follows _ _ _ c.if-start-end_before.false c.if-start-gt-SAMPLES_PER_JOC_FRAME.false)
 
-returns-3 : tie.Need-returns-3 invariant-loop decreases-loop
+returns-3 : tie.Need-returns invariant-loop decreases-loop
 unfolding following
-returns-3 c = sym (ended c.before.loop.invariant c.loop-test.false)
+returns-3 c = sym (ended c.loop-block.invariant c.loop-block-test.false)
 
-pub validate-following-spec : {M : Type 1} → statement M
-validate-following-spec =
+pub validate_following_spec : {M : Type 1} → statement M
+validate_following_spec =
     tie.close
     (tie.spec
     invariant-loop
     decreases-loop
-    (λ c. begin c.before.args.end c.before.args.timings.now c.before.args.blocks)
+    (λ c. begin c.args.end c.args.timings.now c.args.blocks)
     (λ c κs. omega arith)
     (λ c. search rules)
     returns

@@ -10,44 +10,38 @@ use Rattle.timing.proofs.Rules.{overlaps, crosses, lies-apart}
 use Rattle.timing.proofs.updates.validate_oamd_timing.Statement.{statement}
 use Rattle.timing.proofs.updates.validate_oamd_timing.Tie as tie
 
-abbrev invariant-loop : tie.invariant-loop
+abbrev invariant-loop : tie.invariant-loop-block
 invariant-loop timings blocks previous-end₀ block₀ previous-end block = Reached apart 0 timings blocks previous-end block
 
-abbrev decreases-loop : tie.decreases-loop
+abbrev decreases-loop : tie.decreases-loop-block
 decreases-loop timings blocks previous-end₀ block₀ previous-end block = blocks - block
 
-returns : tie.Need-returns invariant-loop decreases-loop
+returns : tie.Need-returns-then-start-previous_end invariant-loop decreases-loop
 returns c =
-    let read = c.before.before.before in
-    let turn = read.before in
-    sym (decided turn.before.loop.invariant read.timing-at.ensures turn.loop-test.true (overlaps _ _ _ c.if1.true))
+    sym (decided c.loop-block.invariant c.timing_at-timing.ensures c.loop-block-test.true (overlaps _ _ _ c.if-start-previous_end.true))
 
-returns-2 : tie.Need-returns-2 invariant-loop decreases-loop
+returns-2 : tie.Need-returns-then-start-end invariant-loop decreases-loop
 unfolding frame_length
 returns-2 c =
-    let read = c.before.before.before.before in
-    let turn = read.before in
     sym
-    (decided turn.before.loop.invariant read.timing-at.ensures turn.loop-test.true (crosses _ _ _ c.before.if1.false c.if2.true))
+    (decided c.loop-block.invariant c.timing_at-timing.ensures c.loop-block-test.true (crosses _ _ _ c.if-start-previous_end.false c.if-start-end.true))
 
-loop-again : tie.Need-loop-preserved invariant-loop decreases-loop
+loop-again : tie.Need-loop-block-preserved invariant-loop decreases-loop
 unfolding frame_length
 loop-again c =
-    let read = c.before.before.before.before in
-    let turn = read.before in
-    onward turn.before.loop.invariant read.timing-at.ensures turn.loop-test.true (lies-apart _ _ _ c.before.if1.false c.if2.false)
+    onward c.loop-block.invariant c.timing_at-timing.ensures c.loop-block-test.true (lies-apart _ _ _ c.if-start-previous_end.false c.if-start-end.false)
 
-returns-3 : tie.Need-returns-3 invariant-loop decreases-loop
+returns-3 : tie.Need-returns invariant-loop decreases-loop
 unfolding apart
-returns-3 c = sym (ended c.before.loop.invariant c.loop-test.false)
+returns-3 c = sym (ended c.loop-block.invariant c.loop-block-test.false)
 
-pub validate-oamd-timing-spec : {M : Type 1} → statement M
-validate-oamd-timing-spec =
+pub validate_oamd_timing_spec : {M : Type 1} → statement M
+validate_oamd_timing_spec =
     tie.close
     (tie.spec
     invariant-loop
     decreases-loop
-    (λ c. begin 0 c.before.args.timings.now c.before.args.blocks)
+    (λ c. begin 0 c.args.timings.now c.args.blocks)
     (λ c κs. omega arith)
     (λ c. search rules)
     (λ c. search rules)

@@ -16,26 +16,24 @@ use Rattle.update.proofs.basic.gain_db.Tie as tie
 fits : (a w : ℕ) → a < 64 → w < 64 → SFits w16 (sub_ℕ a w)
 fits a w h l = record { sfits = omega (arith, mag-minus a w) }
 
-returns : tie.Need-returns
+returns : tie.Need-returns-then-word
 unfolding decibels
 returns c =
-    let w = c.before.args.word in
-    rw (up w (omega arith), minus, le-leb w 14 (omega arith)) (to_z-of_z (fits 15 w (omega arith) c.before.requires))
+    rw (up c.args.word (omega arith), minus, le-leb c.args.word 14 (omega arith)) (to_z-of_z (fits 15 c.args.word (omega arith) c.requires))
 
-returns-2 : tie.Need-returns-2
+returns-2 : tie.Need-returns-else-word
 unfolding decibels
 returns-2 c =
-    let w = c.before.args.word in
-    rw (up w (omega arith), minus, lt-leb w 14 (omega arith)) (to_z-of_z (fits 14 w (omega arith) c.before.requires))
+    rw (up c.args.word (omega arith), minus, lt-leb c.args.word 14 (omega arith)) (to_z-of_z (fits 14 c.args.word (omega arith) c.requires))
 
-pub gain-db-spec : {M : Type 1} → statement M
-gain-db-spec =
+pub gain_db_spec : {M : Type 1} → statement M
+gain_db_spec =
     tie.close
     (tie.spec
     (λ c. search rules)
     (λ c. search rules)
-    (λ c. rw (up c.before.args.word (omega arith), minus) (fits 15 _ (omega arith) c.before.requires))
+    (λ c. rw (up c.args.word (omega arith), minus) (fits 15 _ (omega arith) c.requires))
     (λ c. search rules)
-    (λ c. rw (up c.before.args.word (omega arith), minus) (fits 14 _ (omega arith) c.before.requires))
+    (λ c. rw (up c.args.word (omega arith), minus) (fits 14 _ (omega arith) c.requires))
     returns
     returns-2)

@@ -9,20 +9,18 @@ use Rattle.standard.specs.Updates.{basic}
 use Rattle.update.proofs.basic.read_basic_info.Statement.{statement}
 use Rattle.update.proofs.basic.read_basic_info.Tie as tie
 
-returns-2 : tie.Need-returns-2
+returns-2 : tie.Need-returns-in-Refused
 unfolding basic ◌>>=◌
 returns-2 c =
-    let n = c.before.before.before.before.before.before.args.status in
-    rw (ne_eqb n 0 (omega arith), ne_eqb n 2 (omega arith), came said c.before.before.before.read-parts.ensures c.before.refusal.given.1)
+    rw (ne_eqb c.args.status 0 (omega arith), ne_eqb c.args.status 2 (omega arith), came said c.read_parts.ensures c.in-Refused.is)
 
-returns-3 : tie.Need-returns-3
+returns-3 : tie.Need-returns-in-Value
 unfolding basic ◌>>=◌
 returns-3 c =
-    let n = c.before.before.before.before.before.before.before.args.status in
-    rw (ne_eqb n 0 (omega arith), ne_eqb n 2 (omega arith), came said c.before.before.before.before.read-parts.ensures c.before.before.flags.given.1) c.read-levels.ensures
+    rw (ne_eqb c.args.status 0 (omega arith), ne_eqb c.args.status 2 (omega arith), came said c.read_parts.ensures c.in-Value.is) c.read_levels.ensures
 
-pub read-basic-info-spec : {M : Type 1} → statement M
-read-basic-info-spec =
+pub read_basic_info_spec : {M : Type 1} → statement M
+read_basic_info_spec =
     tie.close
     (tie.spec
     (λ c κs. search rules) (λ c. c.unread.ensures _ _ _) (λ c κs. search rules) (λ c. search rules)

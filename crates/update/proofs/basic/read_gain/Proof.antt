@@ -31,42 +31,37 @@ alone (suc (suc (suc (suc i)))) s e p h k = absurd (omega arith)
 
 -- the flag is set, and the index was read, or refused
 at-index : (c : tie.After-read) →
-    let a = c.before.before.before.before.args in
-    optional (is_set 1 a.flags) (placed gain_word) a.payload.now a.limit.0 a.at.0
-    ≡ if_asked (is_set 1 a.flags) a.at.0 (and_then (said c.read.result) (λ i q. gain_by i a.payload.now a.limit.0 q))
+    optional (is_set 1 c.args.flags) (placed gain_word) c.args.payload.now c.args.limit.0 c.args.at.0
+    ≡ if_asked (is_set 1 c.args.flags) c.args.at.0 (and_then (said c.read.result) (λ i q. gain_by i c.args.payload.now c.args.limit.0 q))
 unfolding gain_word ◌>>=◌
-at-index c = when-asked gain_word _ _ _ (set c.before.before.is_set.ensures c.before.if1.false) ∙ rw c.read.ensures
+at-index c = when-asked gain_word _ _ _ (set c.is_set.ensures c.if-not-is_set.false-raw) ∙ rw c.read.ensures
 
-returns-2 : tie.Need-returns-2
+returns-2 : tie.Need-returns-then-index-ne2
 returns-2 c =
-    let index = c.before.before.before in
-    let small = gives said (read-lt _ _) index.before.before.read.ensures index.index.given.1 in
-    rw (at-index index.before.before, index.index.given.1, alone _ _ _ _ small c.before.if2.true, back {z = c.level.result} c.level.type-inv, c.level.ensures)
+    let small = gives said (read-lt _ _) c.read.ensures c.in-Value.is in
+    rw (at-index c.before.before.before, c.in-Value.is, alone _ _ _ _ small c.if-index-ne2.true, back {z = c.level.result} c.level.type_inv, c.level.ensures)
 
-gain-db-requires : tie.Need-gain-db-requires
-gain-db-requires c κs = gives said (read-lt _ _) c.before.before.before.read2.ensures c.before.word.given.1
+gain-db-requires : tie.Need-gain_db-requires
+gain-db-requires c κs = gives said (read-lt _ _) c.read-in-Value.ensures c.in-Value-read.is
 
-returns-4 : tie.Need-returns-4
+returns-4 : tie.Need-returns-in-Refused-read
 unfolding gain_by map_p
 returns-4 c =
-    let index = c.before.before.before.before.before.before in
-    let two : index.index.given.0.0 ≡ 2 = omega (arith, c.before.before.before.before.if2.false) in
-    rw (at-index index.before.before, index.index.given.1, two, came said c.before.before.before.read2.ensures c.before.refusal2.given.1)
+    let two : c.in-Value.index ≡ 2 = omega (arith, c.if-index-ne2.false) in
+    rw (at-index c.before.before.before.before, c.in-Value.is, two, came said c.read-in-Value.ensures c.in-Refused-read.is)
 
-returns-5 : tie.Need-returns-5
+returns-5 : tie.Need-returns-in-Value-read
 unfolding gain_by map_p
 returns-5 c =
-    let word = c.before.before in
-    let index = word.before.before.before.before.before in
-    let two : index.index.given.0.0 ≡ 2 = omega (arith, word.before.before.before.if2.false) in
-    rw (at-index index.before.before, index.index.given.1, two, came said word.before.before.read2.ensures word.word.given.1, back c.gain-db.type-inv, c.gain-db.ensures)
+    let two : c.in-Value.index ≡ 2 = omega (arith, c.if-index-ne2.false) in
+    rw (at-index c.before.before.before.before.before, c.in-Value.is, two, came said c.read-in-Value.ensures c.in-Value-read.is, back c.gain_db.type_inv, c.gain_db.ensures)
 
-pub read-gain-spec : {M : Type 1} → statement M
+pub read_gain_spec : {M : Type 1} → statement M
 unfolding optional pure
-read-gain-spec =
+read_gain_spec =
     tie.close
     (tie.spec
-    (λ c κs. search rules) (λ c. rw (unset c.before.is_set.ensures c.if1.true)) (λ c κs. search rules)
+    (λ c κs. search rules) (λ c. rw (unset c.is_set.ensures c.if-not-is_set.true-raw)) (λ c κs. search rules)
     (λ c. search rules) (λ c. search rules) (λ c κs. search rules) returns-2 (λ c κs. search rules)
     (λ c. search rules) (λ c. search rules) gain-db-requires
-    (λ c. rw (at-index c.before.before.before, c.before.refusal.given.1)) returns-4 returns-5)
+    (λ c. rw (at-index c.before, c.in-Refused.is)) returns-4 returns-5)

@@ -7,9 +7,9 @@ use Rattle.standard.specs.Updates.{basic}
 use Rattle.update.proofs.basic.unread.Statement.{statement}
 use Rattle.update.proofs.basic.unread.Tie as tie
 
-pub unread-spec : {M : Type 1} → statement M
+pub unread_spec : {M : Type 1} → statement M
 unfolding basic is_set pure
-unread-spec = tie.close
+unread_spec = tie.close
     (tie.spec
-    (λ c. λ s e p. rw c.if1.true)
-    (λ c. let two : c.before.args.status ≡ 2 = omega (arith, c.before.requires.0, c.before.requires.1, c.if1.false) in λ s e p. rw two))
+    (λ c. λ s e p. rw c.if-status-eq0.true)
+    (λ c. let two : c.args.status ≡ 2 = omega (arith, c.requires.0, c.requires.1, c.if-status-eq0.false) in λ s e p. rw two))

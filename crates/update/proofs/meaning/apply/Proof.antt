@@ -10,59 +10,46 @@ use Rattle.update.proofs.AskedWords.{or-before}
 use Rattle.update.proofs.meaning.apply.Statement.{statement}
 use Rattle.update.proofs.meaning.apply.Tie as tie
 
-returns : tie.Need-returns
+returns : tie.Need-returns-in-Inactive
 unfolding row_mark row_picture updated
 returns c =
-    let kind = c.before.before in
-    let words = kind.before in
-    let dynamic = words.before.before.before in
-    let s = dynamic.before in
     rw (
-      words.enum_told.given.1,
-      back {z = kind.kind-of.result} kind.kind-of.type-inv,
-      kind.kind-of.ensures,
-      back {z = c.row-mark.result} c.row-mark.type-inv,
-      c.row-mark.ensures,
-      dynamic.is-dynamic.ensures,
-      to_z-of_z s.ranges.kind,
-      back {z = s.args.row.mark} (omega (arith, c.before.struct_told.given)),
+      c.in-Inactive.is,
+      back {z = c.kind_of.result} c.kind_of.type_inv,
+      c.kind_of.ensures,
+      back {z = c.row_mark.result} c.row_mark.type_inv,
+      c.row_mark.ensures,
+      c.is_dynamic-dynamic.ensures,
+      to_z-of_z c.ranges.kind,
+      back {z = c.args.row.mark} (omega (arith, c.struct_told-1.given)),
     )
 
-returns-2 : tie.Need-returns-2
+returns-2 : tie.Need-returns-in-Active
 unfolding row_mark row_picture updated
 returns-2 c =
-    let picture = c.before.before in
-    let priority = picture.before in
-    let gain = priority.before.before.before in
-    let kind = gain.before.before in
-    let words = kind.before.before in
-    let dynamic = words.before.before.before in
-    let s = dynamic.before in
-    let basic = words.words.given.0.0 in
-    let before = s.args.row in
     rw (
-      words.words.given.1,
-      back {z = kind.kind-of2.result} kind.kind-of2.type-inv,
-      kind.kind-of2.ensures,
-      back {z = gain.new-gain.result} gain.new-gain.type-inv,
-      gain.new-gain.ensures,
-      back {z = priority.or-before.result} priority.or-before.type-inv,
-      priority.or-before.ensures,
-      picture.row-picture.ensures,
-      back {z = c.row-mark2.result} c.row-mark2.type-inv,
-      c.row-mark2.ensures,
-      dynamic.is-dynamic.ensures,
-      to_z-of_z s.ranges.kind,
-      to_z-of_z s.ranges.previous-gain,
-      back {z = before.gain} (omega (arith, gain.before.struct-told2.given)),
-      back {z = basic.priority} (omega (arith, priority.before.before.struct-told3.given)),
-      back {z = before.priority} (omega (arith, priority.before.struct-told4.given)),
-      back {z = before.mark} (omega (arith, c.before.struct-told5.given)),
-      or-before (is_set 0 basic.flags),
+      c.in-Active.is,
+      back {z = c.kind_of-in-Active.result} c.kind_of-in-Active.type_inv,
+      c.kind_of-in-Active.ensures,
+      back {z = c.new_gain.result} c.new_gain.type_inv,
+      c.new_gain.ensures,
+      back {z = c.or_before.result} c.or_before.type_inv,
+      c.or_before.ensures,
+      c.row_picture.ensures,
+      back {z = c.row_mark-in-Active.result} c.row_mark-in-Active.type_inv,
+      c.row_mark-in-Active.ensures,
+      c.is_dynamic-dynamic.ensures,
+      to_z-of_z c.ranges.kind,
+      to_z-of_z c.ranges.previous_gain,
+      back {z = c.args.row.gain} (omega (arith, c.struct_told-in-Active-1.given)),
+      back {z = c.in-Active.basic.priority} (omega (arith, c.struct_told-in-Active-2-1.given)),
+      back {z = c.args.row.priority} (omega (arith, c.struct_told-in-Active-3-1.given)),
+      back {z = c.args.row.mark} (omega (arith, c.struct_told-in-Active-4-1.given)),
+      or-before (is_set 0 c.in-Active.basic.flags),
     )
 
-pub apply-spec : {M : Type 1} → statement M
-apply-spec =
+pub apply_spec : {M : Type 1} → statement M
+apply_spec =
     tie.close
     (tie.spec
     (λ c κs. search rules) (λ c. search rules) (λ c κs. search rules) (λ c κs. search rules) (λ c. search rules) (λ c κs. search rules)

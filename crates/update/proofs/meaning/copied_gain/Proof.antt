@@ -6,9 +6,9 @@ use Rattle.rows.proofs.Tests.{bits-silent}
 use Rattle.update.proofs.meaning.copied_gain.Statement.{statement}
 use Rattle.update.proofs.meaning.copied_gain.Tie as tie
 
-pub copied-gain-spec : {M : Type 1} → statement M
+pub copied_gain_spec : {M : Type 1} → statement M
 unfolding copied_gain
-copied-gain-spec = tie.close
+copied_gain_spec = tie.close
     (tie.spec
-    (λ c. let s = c.before in rw (← bits-silent s.args.previous s.ranges.previous.sfits, eq-eqb _ _ c.if1.true))
-    (λ c. let s = c.before in rw (to_z-of_z s.ranges.previous, ← bits-silent s.args.previous s.ranges.previous.sfits, ne_eqb _ _ c.if1.false)))
+    (λ c. rw (← bits-silent c.args.previous c.ranges.previous.sfits, eq-eqb _ _ c.if-previous-eq-SILENCE.true))
+    (λ c. rw (to_z-of_z c.ranges.previous, ← bits-silent c.args.previous c.ranges.previous.sfits, ne_eqb _ _ c.if-previous-eq-SILENCE.false)))

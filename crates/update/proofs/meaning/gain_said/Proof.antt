@@ -7,10 +7,10 @@ use Rattle.rows.proofs.Tests.{back}
 use Rattle.update.proofs.meaning.gain_said.Statement.{statement}
 use Rattle.update.proofs.meaning.gain_said.Tie as tie
 
-pub gain-said-spec : {M : Type 1} → statement M
+pub gain_said_spec : {M : Type 1} → statement M
 unfolding gain_said
-gain-said-spec = tie.close
+gain_said_spec = tie.close
     (tie.spec
     (λ c κs. search rules)
-    (λ c. let g = c.before in rw (back {z = g.copied-gain.result} g.copied-gain.type-inv, g.copied-gain.ensures, to_z-of_z g.before.ranges.previous, c.if1.true))
-    (λ c. rw c.before.if1.false (back (omega (arith, c.struct_told.given)))))
+    (λ c. rw (back {z = c.copied_gain-copied.result} c.copied_gain-copied.type_inv, c.copied_gain-copied.ensures, to_z-of_z c.ranges.previous, c.if-basic.true))
+    (λ c. rw c.if-basic.false (back (omega (arith, c.struct_told-1.given)))))

@@ -9,17 +9,15 @@ use Rattle.update.proofs.meaning.new_gain.Tie as tie
 
 returns : tie.Need-returns
 returns c =
-    let g = c.before in
-    let s = g.before in
     rw (
-      back {z = c.or-before.result} c.or-before.type-inv,
-      c.or-before.ensures,
-      back {z = g.gain-said.result} g.gain-said.type-inv,
-      g.gain-said.ensures,
-      to_z-of_z s.ranges.previous,
-      to_z-of_z s.ranges.before,
-      new-gain (is_set 1 s.args.basic.flags),
+      back {z = c.or_before.result} c.or_before.type_inv,
+      c.or_before.ensures,
+      back {z = c.gain_said.result} c.gain_said.type_inv,
+      c.gain_said.ensures,
+      to_z-of_z c.ranges.previous,
+      to_z-of_z c.ranges.before,
+      new-gain (is_set 1 c.args.basic.flags),
     )
 
-pub new-gain-spec : {M : Type 1} → statement M
-new-gain-spec = tie.close (tie.spec (λ c κs. search rules) (λ c κs. search rules) returns)
+pub new_gain_spec : {M : Type 1} → statement M
+new_gain_spec = tie.close (tie.spec (λ c κs. search rules) (λ c κs. search rules) returns)

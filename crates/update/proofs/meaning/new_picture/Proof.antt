@@ -11,30 +11,24 @@ use Rattle.update.proofs.meaning.new_picture.Tie as tie
 returns : tie.Need-returns
 unfolding new_picture
 returns c =
-    let screen = c.before in
-    let size = screen.before.before.before in
-    let zone = size.before in
-    let distance = zone.before in
-    let point = distance.before.before.before in
-    let a = point.before.args in
     rw (
-      point.new-point.ensures,
-      back {z = distance.or-before.result} distance.or-before.type-inv,
-      distance.or-before.ensures,
-      back {z = a.groups.distance} (omega (arith, distance.before.before.struct_told.given)),
-      back {z = a.before.distance} (omega (arith, distance.before.struct-told2.given)),
+      c.new_point.ensures,
+      back {z = c.or_before.result} c.or_before.type_inv,
+      c.or_before.ensures,
+      back {z = c.args.groups.distance} (omega (arith, c.struct_told-1.given)),
+      back {z = c.args.before.distance} (omega (arith, c.struct_told-2-1.given)),
       new-position,
-      zone.new-zone.ensures,
-      size.new-size.ensures,
-      back {z = screen.or-before2.result} screen.or-before2.type-inv,
-      screen.or-before2.ensures,
-      back {z = a.groups.screen} (omega (arith, screen.before.before.struct-told3.given)),
-      back {z = a.before.screen} (omega (arith, screen.before.struct-told4.given)),
-      back {z = a.groups.lock} (omega (arith, c.struct-told5.given)),
-      or-before (is_set 0 a.groups.flags),
+      c.new_zone.ensures,
+      c.new_size.ensures,
+      back {z = c.or_before-2.result} c.or_before-2.type_inv,
+      c.or_before-2.ensures,
+      back {z = c.args.groups.screen} (omega (arith, c.struct_told-3-1.given)),
+      back {z = c.args.before.screen} (omega (arith, c.struct_told-4-1.given)),
+      back {z = c.args.groups.lock} (omega (arith, c.struct_told-5-1.given)),
+      or-before (is_set 0 c.args.groups.flags),
     )
 
-pub new-picture-spec : {M : Type 1} → statement M
-new-picture-spec =
+pub new_picture_spec : {M : Type 1} → statement M
+new_picture_spec =
     tie.close
     (tie.spec (λ c κs. search rules) (λ c κs. search rules) (λ c κs. search rules) (λ c κs. search rules) (λ c κs. search rules) returns)

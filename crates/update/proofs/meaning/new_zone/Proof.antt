@@ -3,9 +3,9 @@ use borrow.Author.Rules.{rules}
 use Rattle.update.proofs.meaning.new_zone.Statement.{statement}
 use Rattle.update.proofs.meaning.new_zone.Tie as tie
 
-pub new-zone-spec : {M : Type 1} → statement M
-new-zone-spec =
+pub new_zone_spec : {M : Type 1} → statement M
+new_zone_spec =
     tie.close
     (tie.spec
-    (λ c κs. search rules) (λ c. rw (← c.before.before.is_set.ensures, c.before.if1.true))
-    (λ c. rw (← c.before.is_set.ensures, c.if1.false)))
+    (λ c κs. search rules) (λ c. rw (← c.is_set.ensures, c.if-is_set.true))
+    (λ c. rw (← c.is_set.ensures, c.if-is_set.false)))

@@ -13,9 +13,8 @@ use Rattle.update.proofs.meaning.risen.Tie as tie
 
 returns : tie.Need-returns
 returns c =
-    let a = c.before.args in
-    let n = bit_or a.bits c.bits_of.result in
-    to_z_pos w16 {n = n % 32} (omega arith) ∙ ap pos (joined-bits a.bits c.bits_of.result a.before (rw (to_z-of_z c.before.ranges.before) at c.bits_of.ensures))
+    let n = bit_or c.args.bits c.bits_of.result in
+    to_z_pos w16 {n = n % 32} (omega arith) ∙ ap pos (joined-bits c.args.bits c.bits_of.result c.args.before (rw (to_z-of_z c.ranges.before) at c.bits_of.ensures))
 
-pub risen-spec : {M : Type 1} → statement M
-risen-spec = tie.close (tie.spec (λ c κs. search rules) (λ c. search rules) returns)
+pub risen_spec : {M : Type 1} → statement M
+risen_spec = tie.close (tie.spec (λ c κs. search rules) (λ c. search rules) returns)

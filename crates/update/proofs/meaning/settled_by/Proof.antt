@@ -23,25 +23,21 @@ by_flags w =
 
 returns : tie.Need-returns
 returns c =
-    let screen = c.before in
-    let size = screen.before.before in
-    let zone = size.before.before in
-    let position = zone.before.before in
     rw (
-      by_flags position.before.before.before.args.groups,
-      position.bit-if.ensures.0,
-      zone.bit-if2.ensures.0,
-      size.bit-if3.ensures.0,
-      screen.bit-if4.ensures.0,
-      c.bit-if5.ensures.0,
-      position.before.before.is_set.ensures,
-      zone.before.is-set2.ensures,
-      size.before.is-set3.ensures,
-      screen.before.is-set4.ensures,
+      by_flags c.args.groups,
+      c.bit_if-position.ensures.0,
+      c.bit_if-zone.ensures.0,
+      c.bit_if-size.ensures.0,
+      c.bit_if-screen.ensures.0,
+      c.bit_if-lock.ensures.0,
+      c.is_set.ensures,
+      c.is_set-2.ensures,
+      c.is_set-3.ensures,
+      c.is_set-4.ensures,
     )
 
-pub settled-by-spec : {M : Type 1} → statement M
-settled-by-spec =
+pub settled_by_spec : {M : Type 1} → statement M
+settled_by_spec =
     tie.close
     (tie.spec
     (λ c κs. search rules) (λ c κs. search rules) (λ c κs. search rules) (λ c κs. search rules)

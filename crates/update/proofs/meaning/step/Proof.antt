@@ -10,46 +10,40 @@ use Rattle.update.proofs.meaning.step.Statement.{statement}
 use Rattle.update.proofs.meaning.step.Tie as tie
 
 -- the tests, on the numbers themselves
-low-taken : (c : tie.Then1) → let a = c.before.args in lt_z (a.coordinate +ℤ a.by) a.low ≡ true
+low-taken : (c : tie.Then-sum-low) → lt_z (c.args.coordinate +ℤ c.args.by) c.args.low ≡ true
 low-taken c =
-    let f = c.before.ranges in
-    rw (summed f.coordinate f.by, wide f.low) at c.if1.true
+    rw (summed c.ranges.coordinate c.ranges.by, wide c.ranges.low) at c.if-sum-low.true
 
-low-left : (c : tie.Else1) → let a = c.before.args in lt_z (a.coordinate +ℤ a.by) a.low ≡ false
+low-left : (c : tie.Else-sum-low) → lt_z (c.args.coordinate +ℤ c.args.by) c.args.low ≡ false
 low-left c =
-    let f = c.before.ranges in
-    rw (summed f.coordinate f.by, wide f.low) at c.if1.false
+    rw (summed c.ranges.coordinate c.ranges.by, wide c.ranges.low) at c.if-sum-low.false
 
-high_taken : (c : tie.Then2) → let a = c.before.before.args in lt_z a.high (a.coordinate +ℤ a.by) ≡ true
+high_taken : (c : tie.Then-high-sum) → lt_z c.args.high (c.args.coordinate +ℤ c.args.by) ≡ true
 high_taken c =
-    let f = c.before.before.ranges in
-    rw (summed f.coordinate f.by, wide f.high) at c.if2.true
+    rw (summed c.ranges.coordinate c.ranges.by, wide c.ranges.high) at c.if-high-sum.true
 
-high-left : (c : tie.Else2) → let a = c.before.before.args in lt_z a.high (a.coordinate +ℤ a.by) ≡ false
+high-left : (c : tie.Else-high-sum) → lt_z c.args.high (c.args.coordinate +ℤ c.args.by) ≡ false
 high-left c =
-    let f = c.before.before.ranges in
-    rw (summed f.coordinate f.by, wide f.high) at c.if2.false
+    rw (summed c.ranges.coordinate c.ranges.by, wide c.ranges.high) at c.if-high-sum.false
 
-cast-result : tie.Need-overflow-cast-result
+cast-result : tie.Need-overflow_cast-result
 cast-result c =
-    let f = c.before.before.ranges in
-    rw (summed f.coordinate f.by)
-    (between-fits _ _ _ (low-left c.before) (high-left c) f.low f.high)
+    rw (summed c.ranges.coordinate c.ranges.by)
+    (between-fits _ _ _ (low-left c.before) (high-left c) c.ranges.low c.ranges.high)
 
-returns : tie.Need-returns
+returns : tie.Need-returns-then-sum-low
 unfolding clamp
-returns c = rw (to_z-of_z c.before.ranges.low, low-taken c)
+returns c = rw (to_z-of_z c.ranges.low, low-taken c)
 
-returns-2 : tie.Need-returns-2
+returns-2 : tie.Need-returns-then-high-sum
 unfolding clamp
-returns-2 c = rw (to_z-of_z c.before.before.ranges.high, low-left c.before, high_taken c)
+returns-2 c = rw (to_z-of_z c.ranges.high, low-left c.before, high_taken c)
 
-returns-3 : tie.Need-returns-3
+returns-3 : tie.Need-returns-else-high-sum
 unfolding clamp
 returns-3 c =
-    let f = c.before.before.ranges in
-    rw (summed f.coordinate f.by, low-left c.before, high-left c)
-    (to_z-of_z (between-fits _ _ _ (low-left c.before) (high-left c) f.low f.high))
+    rw (summed c.ranges.coordinate c.ranges.by, low-left c.before, high-left c)
+    (to_z-of_z (between-fits _ _ _ (low-left c.before) (high-left c) c.ranges.low c.ranges.high))
 
 pub step_spec : {M : Type 1} → statement M
 step_spec =
@@ -57,4 +51,4 @@ step_spec =
     (tie.spec
     (λ c. wide_fits c.ranges.coordinate) (λ c. wide_fits c.ranges.by)
     (λ c. rw (wide c.ranges.coordinate, wide c.ranges.by) (sum_fits c.ranges.coordinate c.ranges.by))
-    (λ c. wide_fits c.ranges.low) (λ c. wide_fits c.before.ranges.high) cast-result returns returns-2 returns-3)
+    (λ c. wide_fits c.ranges.low) (λ c. wide_fits c.ranges.high) cast-result returns returns-2 returns-3)

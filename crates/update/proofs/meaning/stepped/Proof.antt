@@ -8,25 +8,20 @@ use Rattle.update.proofs.meaning.stepped.Tie as tie
 returns : tie.Need-returns
 unfolding stepped
 returns c =
-    let y = c.before.before.before in
-    let x = y.before.before.before in
-    let s = x.before.before.before in
-    let before = x.before.before.struct_told.given in
-    let steps = x.before.struct-told2.given in
     rw (
-      back {z = x.step.result} x.step.type-inv,
-      back {z = y.step2.result} y.step2.type-inv,
-      back {z = c.step3.result} c.step3.type-inv,
-      x.step.ensures,
-      y.step2.ensures,
-      c.step3.ensures,
-      back {z = s.args.before.x} before.0.1,
-      back {z = s.args.before.y} before.1.0.1,
-      back {z = s.args.before.z} before.1.1.0.1,
-      back {z = s.args.steps.x} steps.0.1,
-      back {z = s.args.steps.y} steps.1.0.1,
-      back {z = s.args.steps.z} steps.1.1.0.1,
+      back {z = c.step.result} c.step.type_inv,
+      back {z = c.step-2.result} c.step-2.type_inv,
+      back {z = c.step-3.result} c.step-3.type_inv,
+      c.step.ensures,
+      c.step-2.ensures,
+      c.step-3.ensures,
+      back {z = c.args.before.x} c.struct_told-1.given.0.1,
+      back {z = c.args.before.y} c.struct_told-1.given.1.0.1,
+      back {z = c.args.before.z} c.struct_told-1.given.1.1.0.1,
+      back {z = c.args.steps.x} c.struct_told-2-1.given.0.1,
+      back {z = c.args.steps.y} c.struct_told-2-1.given.1.0.1,
+      back {z = c.args.steps.z} c.struct_told-2-1.given.1.1.0.1,
     )
 
-pub stepped-spec : {M : Type 1} → statement M
-stepped-spec = tie.close (tie.spec (λ c κs. search rules) (λ c κs. search rules) (λ c. search rules) (λ c κs. search rules) returns)
+pub stepped_spec : {M : Type 1} → statement M
+stepped_spec = tie.close (tie.spec (λ c κs. search rules) (λ c κs. search rules) (λ c. search rules) (λ c κs. search rules) returns)

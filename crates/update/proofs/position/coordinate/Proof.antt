@@ -7,6 +7,6 @@ use Rattle.update.proofs.Numbers.{up}
 use Rattle.update.proofs.position.coordinate.Statement.{statement}
 use Rattle.update.proofs.position.coordinate.Tie as tie
 
-pub coordinate-spec : {M : Type 1} → statement M
-coordinate-spec =
-    tie.close (tie.spec (λ c. search rules) (λ c. search rules) (λ c. rw (up c.before.args.word (omega arith)) (ap pos (omega arith))) (λ c. ap pos (omega arith)))
+pub coordinate_spec : {M : Type 1} → statement M
+coordinate_spec =
+    tie.close (tie.spec (λ c. search rules) (λ c. search rules) (λ c. rw (up c.args.word (omega arith)) (ap pos (omega arith))) (λ c. ap pos (omega arith)))

@@ -19,16 +19,15 @@ fits : (n : ℕ) → n ≤ height_limit → SFits w16 (neg_ℤ (pos n))
 fits zero h = record { sfits = omega arith }
 fits (suc n) h = record { sfits = omega arith }
 
-returns-2 : tie.Need-returns-2
+returns-2 : tie.Need-returns-else-positive
 returns-2 c =
-    let b = c.before in
-    rw (c.if1.false, below b.args.word b.requires) (to_z-of_z (fits b.args.word b.requires))
+    rw (c.if-positive.false, below c.args.word c.requires) (to_z-of_z (fits c.args.word c.requires))
 
 pub height_spec : {M : Type 1} → statement M
 height_spec =
     tie.close
     (tie.spec
     (λ c. search rules)
-    (λ c. rw (below c.before.args.word c.before.requires) (fits c.before.args.word c.before.requires))
-    (λ c. rw (c.if1.true, up c.before.args.word (omega arith)))
+    (λ c. rw (below c.args.word c.requires) (fits c.args.word c.requires))
+    (λ c. rw (c.if-positive.true, up c.args.word (omega arith)))
     returns-2)

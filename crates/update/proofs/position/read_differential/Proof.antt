@@ -4,9 +4,9 @@ use Rattle.bits.specs.Parsed.{pure}
 use Rattle.update.proofs.position.read_differential.Statement.{statement}
 use Rattle.update.proofs.position.read_differential.Tie as tie
 
-pub read-differential-spec : {M : Type 1} → statement M
+pub read_differential_spec : {M : Type 1} → statement M
 unfolding pure
-read-differential-spec =
+read_differential_spec =
     tie.close
     (tie.spec
-    (λ c. rw c.if1.true) (λ c κs. search rules) (λ c. rw c.before.if1.false c.read-flag.ensures))
+    (λ c. rw c.if-first.true) (λ c κs. search rules) (λ c. rw c.if-first.false c.read_flag.ensures))

@@ -13,37 +13,32 @@ use Rattle.update.proofs.position.read_steps.Statement.{statement}
 use Rattle.update.proofs.position.read_steps.Tie as tie
 
 -- the step of y was read, or refused
-at_y : (c : tie.After-read-signed2) →
-    let x = c.before.before in
-    let a = x.before.before.before.before.args in
-    differential a.payload.now a.limit.0 a.at.0
-    ≡ and_then (said_signed c.read-signed2.result) (λ y. (read_signed 3 context.differential-Z >>= λ z. pure (moved (record { x = x.x.given.0.0; y = y; z = z }))) a.payload.now a.limit.0)
+at_y : (c : tie.After-read_signed-in-Value) →
+    differential c.args.payload.now c.args.limit.0 c.args.at.0
+    ≡ and_then (said_signed c.read_signed-in-Value.result) (λ y. (read_signed 3 context.differential-Z >>= λ z. pure (moved (record { x = c.in-Value.x; y = y; z = z }))) c.args.payload.now c.args.limit.0)
 unfolding differential ◌>>=◌
-at_y c = let x = c.before.before in rw (came said_signed x.before.before.read-signed.ensures x.x.given.1, c.read-signed2.ensures)
+at_y c = rw (came said_signed c.read_signed.ensures c.in-Value.is, c.read_signed-in-Value.ensures)
 
-returns-4 : tie.Need-returns-4
+returns-4 : tie.Need-returns-in-Value-read_signed-2
 unfolding ◌>>=◌ pure
 returns-4 c =
-    let z = c.before in
-    let y = z.before.before.before.before in
-    let x = y.before.before.before.before in
     rw (
-      back {z = x.x.given.0.0} y.before.before.before.known-told2.given.0.1,
-      back {z = y.y.given.0.0} z.before.before.before.known-told4.given.0.1,
-      back {z = z.z.given.0.0} c.known-told6.given.0.1,
-      at_y y.before.before,
-      y.y.given.1,
-      came said_signed z.before.before.read-signed3.ensures z.z.given.1,
+      back {z = c.in-Value.x} c.in-Value.known_told-in-Value-1-own.given.0.1,
+      back {z = c.in-Value-read_signed.y} c.in-Value-read_signed.known_told-in-Value-read_signed-2-1-own.given.0.1,
+      back {z = c.in-Value-read_signed-2.z} c.in-Value-read_signed-2.known_told-in-Value-read_signed-3-1-own.given.0.1,
+      at_y c.before.before.before,
+      c.in-Value-read_signed.is,
+      came said_signed c.read_signed-in-Value-read_signed.ensures c.in-Value-read_signed-2.is,
     )
 
-pub read-steps-spec : {M : Type 1} → statement M
+pub read_steps_spec : {M : Type 1} → statement M
 unfolding differential ◌>>=◌ pure
-read-steps-spec =
+read_steps_spec =
     tie.close
     (tie.spec
     (λ c κs. search rules) (λ c. search rules) (λ c. search rules) (λ c κs. search rules) (λ c. search rules)
     (λ c. search rules) (λ c κs. search rules) (λ c. search rules) (λ c. search rules)
-    (λ c. rw (came said_signed c.before.before.before.read-signed.ensures c.before.refusal.given.1))
-    (λ c. rw (at_y c.before.before.before, c.before.refusal2.given.1))
-    (λ c. let y = c.before.before.before.before.before in rw (at_y y.before.before, y.y.given.1, came said_signed c.before.before.before.read-signed3.ensures c.before.refusal3.given.1))
+    (λ c. rw (came said_signed c.read_signed.ensures c.in-Refused.is))
+    (λ c. rw (at_y c.before, c.in-Refused-read_signed.is))
+    (λ c. rw (at_y c.before.before.before, c.in-Value-read_signed.is, came said_signed c.read_signed-in-Value-read_signed.ensures c.in-Refused-read_signed-2.is))
     returns-4)

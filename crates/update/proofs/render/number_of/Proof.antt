@@ -3,6 +3,6 @@ use Rattle.standard.specs.Updates.{bit}
 use Rattle.update.proofs.render.number_of.Statement.{statement}
 use Rattle.update.proofs.render.number_of.Tie as tie
 
-pub number-of-spec : {M : Type 1} → statement M
+pub number_of_spec : {M : Type 1} → statement M
 unfolding bit
-number-of-spec = tie.close (tie.spec (λ c. rw c.if1.true) (λ c. rw c.if1.false))
+number_of_spec = tie.close (tie.spec (λ c. rw c.if-flag.true) (λ c. rw c.if-flag.false))

@@ -25,66 +25,53 @@ behind flags p z n =
     pure (record { position = p; zone = z; size = n; screen = s; lock = l })
 
 -- the size was read, or refused
-at_size : (c : tie.After-read-size) →
-    let z = c.before.before in
-    let p = z.before.before.before.before in
-    let a = p.before.before.before.before.args in
-    let position = asked (is_set 3 a.flags) a.at.0 (position_word_said p.zone-at.given.0.1.0 p.zone-at.given.0.1.1.0 p.zone-at.given.0.1.1.1.0) in
-    let zone = asked (is_set 2 a.flags) p.zone-at.given.0.0.0 (zone_said z.size-at.given.0.1.0) in
-    map_p given (groups a.first a.flags) a.payload.now a.limit.0 a.at.0
-    ≡ map_parsed given (and_then (if_asked (is_set 1 a.flags) z.size-at.given.0.0.0 (size_read c.read-size.result)) (λ n. behind a.flags position zone n a.payload.now a.limit.0))
+at_size : (c : tie.After-read_size) →
+    let position = asked (is_set 3 c.args.flags) c.args.at.0 (position_word_said c.in-Is.distance c.in-Is.steps c.in-Is.point) in
+    let zone = asked (is_set 2 c.args.flags) c.in-Is.zone_at.0 (zone_said c.in-Is-read_zone.zone) in
+    map_p given (groups c.args.first c.args.flags) c.args.payload.now c.args.limit.0 c.args.at.0
+    ≡ map_parsed given (and_then (if_asked (is_set 1 c.args.flags) c.in-Is-read_zone.size_at.0 (size_read c.read_size.result)) (λ n. behind c.args.flags position zone n c.args.payload.now c.args.limit.0))
 unfolding groups ◌>>=◌ map_p
 at_size c =
-    let z = c.before.before in
-    let p = z.before.before.before.before in
-    rw (← p.before.before.read-position.ensures, p.zone-at.given.1, ← z.before.before.read-zone.ensures, z.size-at.given.1, c.read-size.ensures)
+    rw (← c.read_position.ensures, c.in-Is.is, ← c.read_zone.ensures, c.in-Is-read_zone.is, c.read_size.ensures)
 
-returns-5 : tie.Need-returns-5
+returns-5 : tie.Need-returns-in-Refused-read_lock
 unfolding ◌>>=◌ map_p placed
 returns-5 c =
-    let s = c.before.before.before.before.before in
-    let n = s.before.before.before.before in
     rw (
-      at_size n.before.before,
-      n.screen-at.given.1,
-      ← s.before.before.read-screen.ensures,
-      s.screen.given.1,
-      came said_flag c.before.before.before.read-lock.ensures c.before.refusal5.given.1,
+      at_size c.before.before.before.before.before,
+      c.in-Is-read_size.is,
+      ← c.read_screen.ensures,
+      c.in-Is-read_screen.is,
+      came said_flag c.read_lock.ensures c.in-Refused-read_lock.is,
     )
 
-returns-6 : tie.Need-returns-6
+returns-6 : tie.Need-returns-in-Is-read_lock
 unfolding ◌>>=◌ map_p pure placed
 returns-6 c =
-    let l = c.before.before.before in
-    let s = l.before.before.before.before in
-    let n = s.before.before.before.before in
-    let z = n.before.before.before.before in
-    let told = z.before.before.before in
-    let distance = told.before.zone-at.given.0.1.0 in
     rw (
-      back {z = distance} told.known-told2.given.1.0.1,
-      at_size n.before.before,
-      n.screen-at.given.1,
-      ← s.before.before.read-screen.ensures,
-      s.screen.given.1,
-      came said_flag l.before.before.read-lock.ensures l.lock.given.1,
-      back {z = c.before.number_of_lem.result} c.before.number_of_lem.type-inv,
-      c.before.number_of_lem.ensures,
-      back {z = c.number-of2.result} c.number-of2.type-inv,
-      c.number-of2.ensures,
+      back {z = c.in-Is.distance} c.in-Is.known_told-in-Is-1-own.given.1.0.1,
+      at_size c.before.before.before.before.before.before.before,
+      c.in-Is-read_size.is,
+      ← c.read_screen.ensures,
+      c.in-Is-read_screen.is,
+      came said_flag c.read_lock.ensures c.in-Is-read_lock.is,
+      back {z = c.number_of.result} c.number_of.type_inv,
+      c.number_of.ensures,
+      back {z = c.number_of-in-Is-read_lock.result} c.number_of-in-Is-read_lock.type_inv,
+      c.number_of-in-Is-read_lock.ensures,
     )
 
-pub read-groups-spec : {M : Type 1} → statement M
+pub read_groups_spec : {M : Type 1} → statement M
 unfolding groups ◌>>=◌ map_p
-read-groups-spec =
+read_groups_spec =
     tie.close
     (tie.spec
     (λ c κs. search rules) (λ c. search rules) (λ c. search rules) (λ c κs. search rules) (λ c. search rules)
     (λ c. search rules) (λ c κs. search rules) (λ c. search rules) (λ c. search rules) (λ c κs. search rules)
     (λ c. search rules) (λ c. search rules) (λ c κs. search rules) (λ c. search rules) (λ c. search rules)
     (λ c κs. search rules) (λ c κs. search rules)
-    (λ c. rw (← c.before.before.before.read-position.ensures, c.before.refusal.given.1))
-    (λ c. let p = c.before.before.before.before.before in rw (← p.before.before.read-position.ensures, p.zone-at.given.1, ← c.before.before.before.read-zone.ensures, c.before.refusal2.given.1))
-    (λ c. rw (at_size c.before.before.before, c.before.refusal3.given.1))
-    (λ c. let n = c.before.before.before.before.before in rw (at_size n.before.before, n.screen-at.given.1, ← c.before.before.before.read-screen.ensures, c.before.refusal4.given.1))
+    (λ c. rw (← c.read_position.ensures, c.in-Refused.is))
+    (λ c. rw (← c.read_position.ensures, c.in-Is.is, ← c.read_zone.ensures, c.in-Refused-read_zone.is))
+    (λ c. rw (at_size c.before, c.in-Refused-read_size.is))
+    (λ c. rw (at_size c.before.before.before, c.in-Is-read_size.is, ← c.read_screen.ensures, c.in-Refused-read_screen.is))
     returns-5 returns-6)

@@ -10,23 +10,21 @@ use Rattle.standard.specs.Updates.{render}
 use Rattle.update.proofs.render.read_render_info.Statement.{statement}
 use Rattle.update.proofs.render.read_render_info.Tie as tie
 
-returns-3 : tie.Need-returns-3
+returns-3 : tie.Need-returns-in-Refused
 unfolding render ◌>>=◌
 returns-3 c =
-    let n = c.before.before.before.before.before.before.args.status in
-    rw (ne_eqb n 0 (omega arith), ne_eqb n 2 (omega arith), came said c.before.before.before.read-parts.ensures c.before.refusal.given.1)
+    rw (ne_eqb c.args.status 0 (omega arith), ne_eqb c.args.status 2 (omega arith), came said c.read_parts.ensures c.in-Refused.is)
 
-returns-4 : tie.Need-returns-4
+returns-4 : tie.Need-returns-in-Value
 unfolding render ◌>>=◌
 returns-4 c =
-    let n = c.before.before.before.before.before.before.before.args.status in
-    rw (ne_eqb n 0 (omega arith), ne_eqb n 2 (omega arith), came said c.before.before.before.before.read-parts.ensures c.before.before.flags.given.1) c.read-groups.ensures
+    rw (ne_eqb c.args.status 0 (omega arith), ne_eqb c.args.status 2 (omega arith), came said c.read_parts.ensures c.in-Value.is) c.read_groups.ensures
 
-pub read-render-info-spec : {M : Type 1} → statement M
+pub read_render_info_spec : {M : Type 1} → statement M
 unfolding render pure
-read-render-info-spec =
+read_render_info_spec =
     tie.close
     (tie.spec
-    (λ c. rw c.if2.true)
-    (λ c. let two : c.before.before.before.args.status ≡ 2 = omega (arith, c.before.before.before.requires, c.before.if1.true, c.if2.false) in rw two)
+    (λ c. rw c.if-status-eq0-2.true)
+    (λ c. let two : c.args.status ≡ 2 = omega (arith, c.requires, c.if-status-eq0.true, c.if-status-eq0-2.false) in rw two)
     (λ c κs. search rules) (λ c. search rules) (λ c. search rules) (λ c κs. search rules) returns-3 returns-4)

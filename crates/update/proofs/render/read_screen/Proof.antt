@@ -16,39 +16,35 @@ use Rattle.update.proofs.Numbers.{unset, set}
 use Rattle.update.proofs.render.read_screen.Statement.{statement}
 use Rattle.update.proofs.render.read_screen.Tie as tie
 
-asked : (c : tie.Else1) →
-    let a = c.before.before.before.args in
-    optional (is_set 0 a.flags) (placed screen_word) a.payload.now a.limit.0 a.at.0 ≡ if_asked (is_set 0 a.flags) a.at.0 (screen_word a.payload.now a.limit.0 a.at.0)
-asked c = when-asked screen_word _ _ _ (set c.before.is_set.ensures c.if1.false)
+asked : (c : tie.Else-not-is_set) →
+    optional (is_set 0 c.args.flags) (placed screen_word) c.args.payload.now c.args.limit.0 c.args.at.0 ≡ if_asked (is_set 0 c.args.flags) c.args.at.0 (screen_word c.args.payload.now c.args.limit.0 c.args.at.0)
+asked c = when-asked screen_word _ _ _ (set c.is_set.ensures c.if-not-is_set.false-raw)
 
 -- the flag is set, and the first factor was read, or refused
 at-factor : (c : tie.After-read) →
-    let a = c.before.before.before.before.before.before.before.before.before.args in
-    optional (is_set 0 a.flags) (placed screen_word) a.payload.now a.limit.0 a.at.0
-    ≡ if_asked (is_set 0 a.flags) a.at.0 (and_then (said c.read.result) (λ v q. and_then (read 2 context.depth-factor-index a.payload.now a.limit.0 q) (λ v q. got (bit true) q)))
+    optional (is_set 0 c.args.flags) (placed screen_word) c.args.payload.now c.args.limit.0 c.args.at.0
+    ≡ if_asked (is_set 0 c.args.flags) c.args.at.0 (and_then (said c.read.result) (λ v q. and_then (read 2 context.depth-factor-index c.args.payload.now c.args.limit.0 q) (λ v q. got (bit true) q)))
 unfolding screen_word ◌>>=◌ ◌>>◌ pure
 at-factor c =
-    let on = c.before.before.before in
-    asked on.before.before.before ∙ rw (came said_flag on.before.before.read-flag.ensures on.on.given.1, not-false on.on.given.0.0 c.before.if2.false, c.read.ensures)
+    asked c.before.before.before.before ∙ rw (came said_flag c.read_flag.ensures c.in-Is.is, not-false c.in-Is.on c.if-not-on.false-raw, c.read.ensures)
 
 -- and the second
-at-depth : (c : tie.After-read2) →
-    let a = c.before.before.before.before.before.before.before.before.before.before.before.before.before.args in
-    optional (is_set 0 a.flags) (placed screen_word) a.payload.now a.limit.0 a.at.0
-    ≡ if_asked (is_set 0 a.flags) a.at.0 (and_then (said c.read2.result) (λ v q. got (bit true) q))
-at-depth c = let factor = c.before.before in rw (at-factor factor.before.before, factor.next.given.1, c.read2.ensures)
+at-depth : (c : tie.After-read-in-Value) →
+    optional (is_set 0 c.args.flags) (placed screen_word) c.args.payload.now c.args.limit.0 c.args.at.0
+    ≡ if_asked (is_set 0 c.args.flags) c.args.at.0 (and_then (said c.read-in-Value.result) (λ v q. got (bit true) q))
+at-depth c = rw (at-factor c.before.before, c.in-Value.is, c.read-in-Value.ensures)
 
-pub read-screen-spec : {M : Type 1} → statement M
+pub read_screen_spec : {M : Type 1} → statement M
 unfolding screen_word ◌>>=◌ ◌>>◌ pure optional
-read-screen-spec =
+read_screen_spec =
     tie.close
     (tie.spec
-    (λ c κs. search rules) (λ c. rw (unset c.before.is_set.ensures c.if1.true)) (λ c κs. search rules)
+    (λ c κs. search rules) (λ c. rw (unset c.is_set.ensures c.if-not-is_set.true-raw)) (λ c κs. search rules)
     (λ c. search rules) (λ c. search rules)
-    (λ c. let on = c.before.before in rw (asked on.before.before.before, came said_flag on.before.before.read-flag.ensures on.on.given.1, not-true on.on.given.0.0 c.if2.true))
+    (λ c. rw (asked c.before.before.before, came said_flag c.read_flag.ensures c.in-Is.is, not-true c.in-Is.on c.if-not-on.true-raw))
     (λ c κs. search rules) (λ c. search rules) (λ c. search rules) (λ c κs. search rules) (λ c. search rules)
     (λ c. search rules)
-    (λ c. rw (asked c.before.before.before.before, came said_flag c.before.before.before.read-flag.ensures c.before.refusal.given.1))
-    (λ c. rw (at-factor c.before.before.before, c.before.refusal2.given.1))
-    (λ c. rw (at-depth c.before.before.before, c.before.refusal3.given.1))
-    (λ c. rw (at-depth c.before.before.before, c.before.next2.given.1)))
+    (λ c. rw (asked c.before.before, came said_flag c.read_flag.ensures c.in-Refused.is))
+    (λ c. rw (at-factor c.before, c.in-Refused-read.is))
+    (λ c. rw (at-depth c.before, c.in-Refused-read-2.is))
+    (λ c. rw (at-depth c.before, c.in-Value-read.is)))

@@ -16,58 +16,52 @@ use Rattle.update.proofs.render.read_size.Tie as tie
 
 -- the flag is set, and the index was read, or refused
 at-index : (c : tie.After-read) →
-    let a = c.before.before.before.before.args in
-    optional (is_set 1 a.flags) (placed size_word) a.payload.now a.limit.0 a.at.0
-    ≡ if_asked (is_set 1 a.flags) a.at.0 (and_then (said c.read.result) (λ i q. size_by a.at.0 i a.payload.now a.limit.0 q))
+    optional (is_set 1 c.args.flags) (placed size_word) c.args.payload.now c.args.limit.0 c.args.at.0
+    ≡ if_asked (is_set 1 c.args.flags) c.args.at.0 (and_then (said c.read.result) (λ i q. size_by c.args.at.0 i c.args.payload.now c.args.limit.0 q))
 unfolding size_word ◌>>=◌ here
-at-index c = when-asked size_word _ _ _ (set c.before.before.is_set.ensures c.before.if1.false) ∙ rw c.read.ensures
+at-index c = when-asked size_word _ _ _ (set c.is_set.ensures c.if-not-is_set.false-raw) ∙ rw c.read.ensures
 
-small : (c : tie.After-index) → c.index.given.0.0 < 2 ^ 2
-small c = gives said (read-lt _ _) c.before.before.read.ensures c.index.given.1
+small : (c : tie.In-Value) → c.in-Value.index < 2 ^ 2
+small c = gives said (read-lt _ _) c.read.ensures c.in-Value.is
 
-returns-3 : tie.Need-returns-3
+returns-3 : tie.Need-returns-then-index-eq0
 unfolding size_by
 returns-3 c =
-    let index = c.before.before.before.before in
-    let two : index.index.given.0.0 ≡ 2 = omega (arith, small index, c.before.before.if2.true, c.before.if3.false) in
-    rw (at-index index.before.before, index.index.given.1, two, c.read-sizes.ensures)
+    let two : c.in-Value.index ≡ 2 = omega (arith, small c.before.before.before, c.if-index-eq0.true, c.if-index-eq0-2.false) in
+    rw (at-index c.before.before.before.before, c.in-Value.is, two, c.read_sizes.ensures)
 
-returns-4 : tie.Need-returns-4
+returns-4 : tie.Need-returns-then-index-ne1
 unfolding size_by refuse
 returns-4 c =
-    let index = c.before.before.before.before in
-    let three : index.index.given.0.0 ≡ 3 = omega (arith, small index, c.before.before.if2.false, c.before.if4.true) in
-    rw (at-index index.before.before, index.index.given.1, three, c.invalid.ensures)
+    let three : c.in-Value.index ≡ 3 = omega (arith, small c.before.before.before, c.if-index-eq0.false, c.if-index-ne1.true) in
+    rw (at-index c.before.before.before.before, c.in-Value.is, three, c.invalid.ensures)
 
-size-of-requires-3 : tie.Need-size-of-requires-3
+size-of-requires-3 : tie.Need-size_of-requires-in-Value-read
 size-of-requires-3 c κs =
-    let l = gives said (read-lt _ _) c.before.before.before.read2.ensures c.before.size.given.1 in
+    let l = gives said (read-lt _ _) c.read-in-Value.ensures c.in-Value-read.is in
     (omega arith, omega arith, omega arith)
 
-returns-6 : tie.Need-returns-6
+returns-6 : tie.Need-returns-in-Refused-read
 unfolding size_by map_p
 returns-6 c =
-    let index = c.before.before.before.before.before.before.before in
-    let one : index.index.given.0.0 ≡ 1 = omega (arith, c.before.before.before.before.if4.false) in
-    rw (at-index index.before.before, index.index.given.1, one, came said c.before.before.before.read2.ensures c.before.refusal2.given.1)
+    let one : c.in-Value.index ≡ 1 = omega (arith, c.if-index-ne1.false) in
+    rw (at-index c.before.before.before.before.before, c.in-Value.is, one, came said c.read-in-Value.ensures c.in-Refused-read.is)
 
-returns-7 : tie.Need-returns-7
+returns-7 : tie.Need-returns-in-Value-read
 unfolding size_by map_p
 returns-7 c =
-    let size = c.before.before in
-    let index = size.before.before.before.before.before.before in
-    let one : index.index.given.0.0 ≡ 1 = omega (arith, size.before.before.before.if4.false) in
-    rw (at-index index.before.before, index.index.given.1, one, came said size.before.before.read2.ensures size.size.given.1, c.size-of3.ensures)
+    let one : c.in-Value.index ≡ 1 = omega (arith, c.if-index-ne1.false) in
+    rw (at-index c.before.before.before.before.before.before, c.in-Value.is, one, came said c.read-in-Value.ensures c.in-Value-read.is, c.size_of-in-Value-read.ensures)
 
-pub read-size-spec : {M : Type 1} → statement M
+pub read_size_spec : {M : Type 1} → statement M
 unfolding optional pure size_by
-read-size-spec =
+read_size_spec =
     tie.close
     (tie.spec
     (λ c κs. search rules) (λ c κs. search rules)
-    (λ c. rw (unset c.before.before.is_set.ensures c.before.if1.true)) (λ c κs. search rules)
+    (λ c. rw (unset c.is_set.ensures c.if-not-is_set.true-raw)) (λ c κs. search rules)
     (λ c. search rules) (λ c. search rules) (λ c κs. search rules)
-    (λ c. let index = c.before.before.before.before in rw (at-index index.before.before, index.index.given.1, c.before.if3.true, c.size-of2.ensures))
+    (λ c. rw (at-index c.before.before.before.before, c.in-Value.is, c.if-index-eq0-2.true, c.size_of-then-index-eq0-2.ensures))
     (λ c κs. search rules) returns-3 (λ c κs. search rules) returns-4 (λ c κs. search rules) (λ c. search rules)
     (λ c. search rules) size-of-requires-3
-    (λ c. rw (at-index c.before.before.before, c.before.refusal.given.1)) returns-6 returns-7)
+    (λ c. rw (at-index c.before, c.in-Refused.is)) returns-6 returns-7)

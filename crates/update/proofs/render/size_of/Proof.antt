@@ -6,10 +6,10 @@ use Rattle.update.proofs.Numbers.{up}
 use Rattle.update.proofs.render.size_of.Statement.{statement}
 use Rattle.update.proofs.render.size_of.Tie as tie
 
-pub size-of-spec : {M : Type 1} → statement M
+pub size_of_spec : {M : Type 1} → statement M
 unfolding sized
-size-of-spec =
+size_of_spec =
     tie.close
     (tie.spec
     (λ c. search rules) (λ c. search rules) (λ c. search rules)
-    (λ c. let a = c.args in rw (up a.width (omega arith), up a.depth (omega arith), up a.height (omega arith))))
+    (λ c. rw (up c.args.width (omega arith), up c.args.depth (omega arith), up c.args.height (omega arith))))

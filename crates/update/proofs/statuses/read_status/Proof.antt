@@ -5,8 +5,8 @@ use Rattle.standard.specs.Updates.{status}
 use Rattle.update.proofs.statuses.read_status.Statement.{statement}
 use Rattle.update.proofs.statuses.read_status.Tie as tie
 
-pub read-status-spec : {M : Type 1} → statement M
+pub read_status_spec : {M : Type 1} → statement M
 unfolding status pure
-read-status-spec =
+read_status_spec =
     tie.close
-    (tie.spec (λ c. rw c.if1.true) (λ c κs. search rules) (λ c. rw c.before.if1.false c.read.ensures))
+    (tie.spec (λ c. rw c.if-first.true) (λ c κs. search rules) (λ c. rw c.if-first.false c.read.ensures))

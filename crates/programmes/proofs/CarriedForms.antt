@@ -179,10 +179,10 @@ always-formed es = formed silent es silent-formed
 
 -- On the calls: what they leave passes their own test 6
 
-all_shown : (rs : List Row) → All ShownOk rs → all_shown rs ≡ true
+all_shown_lem : (rs : List Row) → All ShownOk rs → all_shown rs ≡ true
 unfolding all_shown
-all_shown [] h = refl
-all_shown (r ∷ rs) h = both (shown_form r) (all_shown rs) h.0 (all_shown rs h.1)
+all_shown_lem [] h = refl
+all_shown_lem (r ∷ rs) h = both (shown_form r) (all_shown rs) h.0 (all_shown_lem rs h.1)
 
 pub going-ok : (c : Carried) → CarriedOk c → going_form (going_of c) rule2 ≡ true
 unfolding going_form
@@ -195,7 +195,7 @@ going-ok c h = go h.running
 -- its rows lie at the head of the table
 pub lies_ok : (c : Carried) (l : List ℤ) → CarriedOk c → rows_of (length c.rows) l ≡ c.rows → carried_form (going_of c) l rule2 ≡ true
 unfolding carried_form
-lies_ok c l h e = rw (going-ok c h, e, all_shown c.rows h.shown, or-true)
+lies_ok c l h e = rw (going-ok c h, e, all_shown_lem c.rows h.shown, or-true)
 
 dropped-ok : (l : List ℤ) → carried_form dropped l rule2 ≡ true
 unfolding carried_form going_form

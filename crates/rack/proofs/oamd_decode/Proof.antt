@@ -6,26 +6,24 @@ use Rattle.rack.proofs.Promised.{left-twin, place-small}
 use Rattle.rack.proofs.oamd_decode.Statement.{statement}
 use Rattle.rack.proofs.oamd_decode.Tie as tie
 
-cast-place : tie.Need-overflow-cast-t21
+cast-place : tie.Need-overflow_cast-answer-in-Refused
 unfolding payload_limit
 cast-place c =
-    let f = c.before.before.before in
-    let k = place-small _ _ f.before.before.before.before.before.before.before.decode.ensures f.refusal.given.1 in
+    let k = place-small _ _ c.decode.ensures c.in-Refused.is in
     omega arith
 
-returns : tie.Need-returns
-returns c = let f = c.before.before in left-twin f.before.before.before.before.before.before.before.decode.ensures f.frame.given.1
+returns : tie.Need-returns-in-Accepted
+returns c = left-twin c.decode.ensures c.in-Accepted.is
 
-returns-2 : tie.Need-returns-2
+returns-2 : tie.Need-returns-in-Refused
 returns-2 c =
-    let f = c.before.before.before.before.before in
-    left-twin f.before.before.before.before.before.before.before.decode.ensures f.refusal.given.1
+    left-twin c.decode.ensures c.in-Refused.is
 
-returns-3 : tie.Need-returns-3
-returns-3 c = let f = c.before.before in left-twin f.before.before.before.before.before.before.before.decode.ensures f.number.given.1
+returns-3 : tie.Need-returns-in-Unread
+returns-3 c = left-twin c.decode.ensures c.in-Unread.is
 
-pub oamd-decode-spec : {M : Type 1} → statement M
-oamd-decode-spec =
+pub oamd_decode_spec : {M : Type 1} → statement M
+oamd_decode_spec =
     tie.close
     (tie.spec
     (λ c κs. search rules)

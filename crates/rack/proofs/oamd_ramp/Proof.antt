@@ -5,7 +5,7 @@ use Rattle.rack.proofs.oamd_ramp.Statement.{statement}
 use Rattle.rack.proofs.oamd_ramp.Tie as tie
 
 returns : tie.Need-returns
-returns c = ramp-twin c.before.before.before.ramp.ensures c.put-ramp.ensures
+returns c = ramp-twin c.ramp.ensures c.put_ramp.ensures
 
-pub oamd-ramp-spec : {M : Type 1} → statement M
-oamd-ramp-spec = tie.close (tie.spec (λ c κs. search rules) (λ c κs. search rules) returns)
+pub oamd_ramp_spec : {M : Type 1} → statement M
+oamd_ramp_spec = tie.close (tie.spec (λ c κs. search rules) (λ c κs. search rules) returns)

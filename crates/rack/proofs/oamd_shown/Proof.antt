@@ -6,27 +6,24 @@ use Rattle.rack.proofs.Promised.{shown-twin}
 use Rattle.rack.proofs.oamd_shown.Statement.{statement}
 use Rattle.rack.proofs.oamd_shown.Tie as tie
 
-returns : tie.Need-returns
+returns : tie.Need-returns-in-Silence
 unfolding of_bits
 returns c =
-    let f = c.before.before.before.before in
-    let twin = shown-twin f.before.before.shown.ensures f.s.given.1 in
-    rw c.before.enum_told.given.1 at twin
+    let twin = shown-twin c.shown.ensures c.in-Row.is in
+    rw c.in-Silence.is at twin
 
-returns-2 : tie.Need-returns-2
+returns-2 : tie.Need-returns-in-Decibels
 returns-2 c =
-    let f = c.before.before.before.before.before in
-    let twin = shown-twin f.before.before.shown.ensures f.s.given.1 in
-    rw c.before.before.gain.given.1 at twin
+    let twin = shown-twin c.shown.ensures c.in-Row.is in
+    rw c.in-Decibels.is at twin
 
-returns-3 : tie.Need-returns-3
+returns-3 : tie.Need-returns-in-Refused
 unfolding nothing_shown of_bits
 returns-3 c =
-    let f = c.before.before in
-    shown-twin f.before.before.shown.ensures f.number.given.1
+    shown-twin c.shown.ensures c.in-Refused.is
 
-pub oamd-shown-spec : {M : Type 1} → statement M
-oamd-shown-spec =
+pub oamd_shown_spec : {M : Type 1} → statement M
+oamd_shown_spec =
     tie.close
     (tie.spec
     (λ c κs. search rules)

@@ -1,6 +1,6 @@
 // The start rows: the retained ones where the kinds are the same, default ones where they are not.
-ghost use Rattle.std.specs.Prelude.{◌≡◌, map, ◌≤◌, length};
-ghost use Rattle.standard.specs.Numbers.{object_limit, start_length};
+ghost use Rattle.std.specs.Prelude.{◌≡◌, cond, map, ◌+◌, ◌*◌, ◌<◌, ◌≤◌, length};
+ghost use Rattle.standard.specs.Numbers.{row_width, object_limit, retained_head, start_length};
 ghost use Rattle.standard.specs.Tree.{kind_code};
 ghost use Rattle.standard.specs.Rows.{is};
 ghost use Rattle.standard.specs.Marks.{doubted};
@@ -8,6 +8,7 @@ ghost use Rattle.standard.specs.Meaning.{held_row, held_rows, default_row, same_
 ghost use Rattle.standard.specs.Tables.{rows_numbers, state_of};
 ghost use Rattle.standard.specs.Calls.{over};
 ghost use Rattle.rows.specs.Say.{row_said};
+ghost use Rattle.rows.specs.Places.{row_at};
 ghost use Rattle.rows.specs.Kinds.{kind_of};
 ghost use Rattle.oamd.specs.Asked.{Held};
 
@@ -20,11 +21,23 @@ pub fn write_starts(retained: &[i16], kinds: &[i16], start: &mut [i16])
     requires { Held retained.now × ((length kinds.now ≤ object_limit) × (start_length ≤ length start.old)) }
     ensures { start.new ≡ over (rows_numbers (start_rows (state_of retained.now) (map kind_of kinds.now))) start.old }
 {
-    if same_kinds(retained, kinds) {
-        write_held(retained, start);
+    let held = same_kinds(retained, kinds);
+    // Rows that are held without doubt are the start rows as they stand.
+    if held & (retained[DOUBT] == 0) {
+        copy(retained, RETAINED_HEAD, start, 0, kinds.len() * ROW_WIDTH);
         return;
     }
-    write_defaults(retained, kinds, start);
+    write_each(retained, kinds, start, held);
+}
+
+fn write_each(retained: &[i16], kinds: &[i16], start: &mut [i16], held: bool)
+    requires { Held retained.now × ((length kinds.now ≤ object_limit) × ((start_length ≤ length start.old) × (held ≡ same_kinds (map kind_of kinds.now) (state_of retained.now).rows))) }
+    ensures { start.new ≡ over (rows_numbers (start_rows (state_of retained.now) (map kind_of kinds.now))) start.old }
+{
+    for object in 0..kinds.len() {
+        let row = start_row(retained, object, kinds[object], held);
+        put_row(start, object * ROW_WIDTH, row);
+    }
 }
 
 // The retained rows. Without doubt they are copied as they stand.
@@ -41,17 +54,6 @@ pub fn write_held(retained: &[i16], start: &mut [i16])
         let row = row_at(retained, RETAINED_HEAD + object * ROW_WIDTH);
         let held = held_row(row, retained[DOUBT]);
         put_row(start, object * ROW_WIDTH, held);
-    }
-}
-
-// Other kinds: every object is new.
-fn write_defaults(retained: &[i16], kinds: &[i16], start: &mut [i16])
-    requires { Held retained.now × ((length kinds.now ≤ object_limit) × (start_length ≤ length start.old)) }
-    ensures { start.new ≡ over (rows_numbers (map (default_row (state_of retained.now).doubt) (map kind_of kinds.now))) start.old }
-{
-    for object in 0..kinds.len() {
-        let row = default_row(kinds[object], retained[DOUBT]);
-        put_row(start, object * ROW_WIDTH, row);
     }
 }
 
@@ -75,6 +77,19 @@ fn is_kind(held: i16, kind: i16) -> bool
     ensures { result ≡ is (kind_code (kind_of kind)) held }
 {
     held == kind_of(kind)
+}
+
+// The row that an object begins after: the retained one, where it is held.
+fn start_row(retained: &[i16], object: usize, kind: i16, held: bool) -> Row
+    requires { Held retained.now × (object < object_limit) }
+    ensures { row_said result ≡ cond held (held_row (state_of retained.now).doubt (row_at retained.now (retained_head + object * row_width))) (default_row (state_of retained.now).doubt (kind_of kind)) }
+{
+    let doubt = retained[DOUBT];
+    if held {
+        let row = row_at(retained, RETAINED_HEAD + object * ROW_WIDTH);
+        return held_row(row, doubt);
+    }
+    default_row(kind, doubt)
 }
 
 fn held_row(mut row: Row, doubt: i16) -> Row

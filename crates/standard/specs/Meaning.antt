@@ -30,7 +30,7 @@ abbrev pub held_rows : State → List Row
 held_rows st = map (held_row st.doubt) st.rows
 
 unfoldable pub start_rows : State → List Kind → List Row
-start_rows st ks = cond (same_kinds ks st.rows) (held_rows st) (map (default_row st.doubt) ks)
+start_rows st ks = cond (same_kinds ks st.rows) (map (held_row st.doubt) st.rows) (map (default_row st.doubt) ks)
 
 -- One object in one block
 

@@ -1,5 +1,5 @@
 -- Nothing is carried, the counts differ, or the kinds decide.
-use mathlib.Core.Path.{◌≡◌, sym, ◌∙◌}
+use mathlib.Core.Path.{sym, ◌∙◌}
 use native.Mathlib.Omega.{arith}
 use borrow.Author.Rules.{rules}
 use Rattle.standard.specs.Numbers.{row_width, object_limit, start_length}

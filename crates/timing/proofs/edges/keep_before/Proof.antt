@@ -4,7 +4,6 @@ use mathlib.Core.Path.{◌≡◌, ◌∙◌}
 use native.Mathlib.Nat.{mul-le-mul_right}
 use native.Mathlib.Omega.{arith}
 use borrow.Author.Rules.{rules}
-use lib.ListN.{length}
 use Rattle.standard.specs.Numbers.{row_width, object_limit, block_limit, start_length, blocks_length}
 use Rattle.standard.specs.CarriedCalls.{table_rows}
 use Rattle.rows.proofs.Rows.{rows-copied}
@@ -23,30 +22,22 @@ fits : (c : tie.Start) → c.args.objects * row_width ≤ start_length
 unfolding row_width object_limit start_length
 fits c = omega (arith, c.requires.few)
 
-returns : tie.Need-returns-then-blocks-lt2
-unfolding row_width table_rows
-returns c =
-    let e : c.args.blocks - 1 ≡ 0 = omega (arith, c.if-blocks-lt2.true) in
-    rw e (c.copy.ensures ∙ rows-copied c.args.objects 0 c.args.start.now _ (omega (arith, c.requires.starts, fits c.before.before.before.before)) (omega (arith, c.requires.room, fits c.before.before.before.before)))
-
-returns-2 : tie.Need-returns
-unfolding row_width table_rows
-returns-2 c =
-    let e : c.args.blocks - 1 ≡ suc (c.args.blocks - 2) = omega (arith, c.if-blocks-lt2.false) in
-    rw e (c.copy-2.ensures ∙ rows-copied c.args.objects ((c.args.blocks - 2) * c.args.objects * row_width) c.args.block_rows.now _ (omega (arith, c.requires.in_blocks, ends c.before.before.before.before)) (omega (arith, c.requires.room, fits c.before.before.before.before)))
-
 pub keep_before_spec : {M : Type 1} → statement M
-unfolding row_width object_limit start_length blocks_length
+unfolding row_width object_limit start_length blocks_length table_rows
 keep_before_spec =
     tie.close
     (tie.spec
     (λ c. omega (arith, fits c))
     (λ c κs. (omega (arith, c.requires.starts, fits c.before.before), omega (arith, c.requires.room, fits c.before.before)))
     (λ c. search rules)
-    returns
+    (λ c.
+    let e : c.args.blocks - 1 ≡ 0 = omega arith in
+    rw e (c.copy.ensures ∙ rows-copied c.args.objects 0 c.args.start.now _ (omega (arith, c.requires.starts, fits c.before.before.before.before)) (omega (arith, c.requires.room, fits c.before.before.before.before))))
     (λ c. omega arith)
     (λ c. omega (arith, ends c.before))
     (λ c. omega (arith, ends c.before))
     (λ c κs. (omega (arith, c.requires.in_blocks, ends c.before.before), omega (arith, c.requires.room, fits c.before.before)))
     (λ c. search rules)
-    returns-2)
+    (λ c.
+    let e : c.args.blocks - 1 ≡ suc (c.args.blocks - 2) = omega arith in
+    rw e (c.copy-2.ensures ∙ rows-copied c.args.objects ((c.args.blocks - 2) * c.args.objects * row_width) c.args.block_rows.now _ (omega (arith, c.requires.in_blocks, ends c.before.before.before.before)) (omega (arith, c.requires.room, fits c.before.before.before.before)))))

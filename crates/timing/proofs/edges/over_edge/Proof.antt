@@ -7,14 +7,6 @@ use Rattle.timing.proofs.Over.{over-running, over-ended}
 use Rattle.timing.proofs.edges.over_edge.Statement.{statement}
 use Rattle.timing.proofs.edges.over_edge.Tie as tie
 
-returns : tie.Need-returns-then-end-le-SAMPLES_PER_JOC_FRAME
-unfolding frame_length
-returns c = λ rows e. c.nothing.ensures ∙ over-ended rows _ c.if-end-le-SAMPLES_PER_JOC_FRAME.true
-
-returns-2 : tie.Need-returns
-unfolding frame_length
-returns-2 c = λ rows e. rw (← e) (over-running rows _ c.if-end-le-SAMPLES_PER_JOC_FRAME.false)
-
 pub over_edge_spec : {M : Type 1} → statement M
 unfolding object_limit frame_length
 over_edge_spec =
@@ -24,8 +16,8 @@ over_edge_spec =
     (λ c. search rules)
     (λ c. search rules)
     (λ c κs. search rules)
-    returns
+    (λ c. λ rows e. c.nothing.ensures ∙ over-ended rows _ (omega arith))
     (λ c. record { fits = omega (arith, c.requires.1) })
     (λ c. omega (arith, c.requires.0))
     (λ c. search rules)
-    returns-2)
+    (λ c. λ rows e. rw (← e) (over-running rows _ (omega arith))))

@@ -1,7 +1,5 @@
 -- Asked of a sample or of blocks out of range, of a short table, of numbers out of form, and then the choice with its fraction.
-use mathlib.Core.Path.{◌≡◌, refl, sym, ◌∙◌}
-use mathlib.Core.Bool.{true}
-use native.Mathlib.Omega.{arith}
+use mathlib.Core.Path.{refl}
 use borrow.Author.Rules.{rules}
 use borrow.Author.Tests.{lt-ltb, le-ltb, le-leb, lt-leb, not-true, not-false}
 use Rattle.standard.specs.Numbers.{frame_length, block_limit}

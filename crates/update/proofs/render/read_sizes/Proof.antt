@@ -19,12 +19,11 @@ unfolding three_sizes ◌>>=◌
 at-depth c = rw (came said c.read.ensures c.in-Value.is, c.read-in-Value.ensures)
 
 size-of-requires : tie.Need-size_of-requires
-size-of-requires c κs =
-    (
-      omega (arith, gives said (read-lt _ _) c.read.ensures c.in-Value.is),
-      omega (arith, gives said (read-lt _ _) c.read-in-Value.ensures c.in-Value-read.is),
-      omega (arith, gives said (read-lt _ _) c.read-in-Value-read.ensures c.in-Value-read-2.is),
-    )
+size-of-requires c κs = (
+  omega (arith, gives said (read-lt _ _) c.read.ensures c.in-Value.is),
+  omega (arith, gives said (read-lt _ _) c.read-in-Value.ensures c.in-Value-read.is),
+  omega (arith, gives said (read-lt _ _) c.read-in-Value-read.ensures c.in-Value-read-2.is),
+)
 
 pub read_sizes_spec : {M : Type 1} → statement M
 unfolding three_sizes ◌>>=◌ pure

@@ -1,5 +1,5 @@
 -- What the program does in a turn is a step of a run, or its end.
-use Rattle.std.proofs.Common.{◌≡◌, ℕ, ◌+◌, ◌≤◌, List, [], ◌∷◌, ◌++◌, length, take, refl, ap, append_assoc, arith}
+use Rattle.std.proofs.Common.{◌≡◌, ℕ, ◌≤◌, List, [], ◌∷◌, ◌++◌, length, take, refl, ap, append_assoc, arith}
 use Rattle.standard.specs.Calls.{Lent}
 use Rattle.standard.specs.Journal.{step}
 use Rattle.journals.specs.Buffers.{part, Kept}

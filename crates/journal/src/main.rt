@@ -19,42 +19,56 @@ use journals::lines::{Ending, LINE_LENGTH, put_last};
 use journals::prints::{Printed, print_next};
 use rows::calls::programme_start;
 use rows::numbers::{BLOCKS_LENGTH, RETAINED_LENGTH, START_LENGTH, TIMINGS_LENGTH};
+use std::io::{Read, Write};
 
 // The last line waits behind the others.
-fn stop(place: Place, ending: Ending, lines: &mut [u8; OUTPUT_LENGTH]) -> Place
+fn stop<W: Write>(
+    output: &mut W,
+    place: Place,
+    ending: Ending,
+    lines: &mut [u8; OUTPUT_LENGTH],
+) -> Place
     requires { Stands place }
     ensures { (Stands result) × (Stopped place ending lines.old result lines.new) }
 {
     let mut line = [0u8; LINE_LENGTH];
     let n = put_last(&mut line, place.records, ending);
-    let waiting = emit(lines, place.waiting, &line, n);
+    let waiting = emit(output, lines, place.waiting, &line, n);
     place.stopped(waiting)
 }
 
 // Whoever waits for the lines of what has arrived gets them before the program waits for more.
-fn read_on(place: Place, arrived: &mut [u8; INPUT_LENGTH], lines: &mut [u8; OUTPUT_LENGTH]) -> Place
+fn read_on<R: Read, W: Write>(
+    input: &mut R,
+    output: &mut W,
+    place: Place,
+    arrived: &mut [u8; INPUT_LENGTH],
+    lines: &mut [u8; OUTPUT_LENGTH],
+) -> Place
     requires { (Stands place) × (place.filled < place.from + record_limit) }
     ensures { (Stands result) × (ReadOn place arrived.old lines.old result arrived.new lines.new) }
 {
-    if !flush(lines, place.waiting) {
+    if !flush(output, lines, place.waiting) {
         return place.cut_off();
     }
     let kept = keep(arrived, place.from, place.filled);
     let rest = place.refilled(kept);
-    match arrive(arrived, kept) {
+    match arrive(input, arrived, kept) {
         Arrival::Filled(filled) => place.refilled(filled),
-        Arrival::Fault => stop(rest, Ending::Fault(place.offset), lines),
+        Arrival::Fault => stop(output, rest, Ending::Fault(place.offset), lines),
         Arrival::End => {
             if kept == 0 {
-                stop(rest, Ending::Complete, lines)
+                stop(output, rest, Ending::Complete, lines)
             } else {
-                stop(rest, Ending::Torn(place.offset), lines)
+                stop(output, rest, Ending::Torn(place.offset), lines)
             }
         }
     }
 }
 
-fn turn(
+fn turn<R: Read, W: Write>(
+    input: &mut R,
+    output: &mut W,
     place: Place,
     arrived: &mut [u8; INPUT_LENGTH],
     retained: &mut [i16; RETAINED_LENGTH],
@@ -80,16 +94,18 @@ fn turn(
         &mut line,
     ) {
         Printed::Line { used, length } => {
-            let waiting = emit(lines, place.waiting, &line, length);
+            let waiting = emit(output, lines, place.waiting, &line, length);
             place.used(number, used, waiting)
         }
-        Printed::More => read_on(place, arrived, lines),
-        Printed::Unknown => stop(place, Ending::BadMark(place.offset), lines),
+        Printed::More => read_on(input, output, place, arrived, lines),
+        Printed::Unknown => stop(output, place, Ending::BadMark(place.offset), lines),
     }
 }
 
 // Nothing says that the input ends, so the turns are counted down from a number that no journal uses up.
-fn main() {
+fn main(rt: HostRuntime) {
+    let mut input = rt.stdin();
+    let mut output = rt.stdout();
     let mut arrived = [0u8; INPUT_LENGTH];
     let mut lines = [0u8; OUTPUT_LENGTH];
     let mut retained = [0i16; RETAINED_LENGTH];
@@ -103,6 +119,8 @@ fn main() {
     while turns > 0 {
         turns -= 1;
         place = turn(
+            &mut input,
+            &mut output,
             place,
             &mut arrived,
             &mut retained,
@@ -115,5 +133,5 @@ fn main() {
             turns = 0;
         }
     }
-    flush(&lines, place.waiting);
+    flush(&mut output, &lines, place.waiting);
 }

@@ -4,17 +4,18 @@ ghost use Rattle.journal.specs.Waits.{Emits};
 
 use journals::buffers::{append, part};
 use journals::lines::LINE_LENGTH;
-use libc::STDOUT_FILENO;
+use std::io::Write;
 
 pub const OUTPUT_LENGTH: usize = 65536;
 
 // False where they could not be written.
-pub fn flush(lines: &[u8; OUTPUT_LENGTH], waiting: usize) -> bool {
-    io::write_all(STDOUT_FILENO, part(lines, 0, waiting))
+pub fn flush<W: Write>(output: &mut W, lines: &[u8; OUTPUT_LENGTH], waiting: usize) -> bool {
+    output.write_all(part(lines, 0, waiting)).is_ok()
 }
 
 // The line waits behind the others; where it has no room they are written first. No line is empty.
-pub fn emit(
+pub fn emit<W: Write>(
+    output: &mut W,
     lines: &mut [u8; OUTPUT_LENGTH],
     waiting: usize,
     line: &[u8; LINE_LENGTH],
@@ -27,6 +28,6 @@ pub fn emit(
     if next > waiting {
         return next;
     }
-    flush(lines, waiting);
+    flush(output, lines, waiting);
     append(lines, 0, text)
 }

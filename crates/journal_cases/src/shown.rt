@@ -2,9 +2,9 @@
 use journals::buffers::part;
 use journals::lines::{Ending, LINE_LENGTH, put_last};
 use journals::prints::{Printed, print_next};
-use libc::STDOUT_FILENO;
 use rows::calls::programme_start;
 use rows::numbers::{BLOCKS_LENGTH, RETAINED_LENGTH, START_LENGTH, TIMINGS_LENGTH};
+use std::io::Write;
 
 #[derive(Clone, Copy)]
 pub struct Place {
@@ -13,14 +13,15 @@ pub struct Place {
     pub ended: bool,
 }
 
-fn print(line: &[u8; LINE_LENGTH], length: usize) {
-    io::write_all(STDOUT_FILENO, part(line, 0, length));
+// A text that cannot be written is left out.
+fn print<W: Write>(output: &mut W, line: &[u8; LINE_LENGTH], length: usize) {
+    let _ = output.write_all(part(line, 0, length));
 }
 
-fn stop(place: Place, ending: Ending) -> Place {
+fn stop<W: Write>(output: &mut W, place: Place, ending: Ending) -> Place {
     let mut line = [0u8; LINE_LENGTH];
     let length = put_last(&mut line, place.records, ending);
-    print(&line, length);
+    print(output, &line, length);
     Place {
         from: place.from,
         records: place.records,
@@ -28,7 +29,8 @@ fn stop(place: Place, ending: Ending) -> Place {
     }
 }
 
-fn turn(
+fn turn<W: Write>(
+    output: &mut W,
     place: Place,
     journal: &[u8],
     retained: &mut [i16; RETAINED_LENGTH],
@@ -44,7 +46,7 @@ fn turn(
         rest, number, offset, retained, start, blocks, timings, &mut line,
     ) {
         Printed::Line { used, length } => {
-            print(&line, length);
+            print(output, &line, length);
             Place {
                 from: std::num::wrapping_add_usize(place.from, used),
                 records: number,
@@ -53,17 +55,17 @@ fn turn(
         }
         Printed::More => {
             if rest.len() == 0 {
-                stop(place, Ending::Complete)
+                stop(output, place, Ending::Complete)
             } else {
-                stop(place, Ending::Torn(offset))
+                stop(output, place, Ending::Torn(offset))
             }
         }
-        Printed::Unknown => stop(place, Ending::BadMark(offset)),
+        Printed::Unknown => stop(output, place, Ending::BadMark(offset)),
     }
 }
 
 // Each turn but the last uses two bytes at least, so as many turns as bytes, and one, suffice.
-pub fn show(title: &[u8], journal: &[u8]) {
+pub fn show<W: Write>(output: &mut W, title: &[u8], journal: &[u8]) {
     let mut retained = [0i16; RETAINED_LENGTH];
     let mut start = [0i16; START_LENGTH];
     let mut blocks = [0i16; BLOCKS_LENGTH];
@@ -74,11 +76,12 @@ pub fn show(title: &[u8], journal: &[u8]) {
         records: 0,
         ended: false,
     };
-    io::write_all(STDOUT_FILENO, title);
+    let _ = output.write_all(title);
     let mut turns = journal.len() + 1;
     while turns > 0 {
         turns -= 1;
         place = turn(
+            output,
             place,
             journal,
             &mut retained,

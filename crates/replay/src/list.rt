@@ -1,21 +1,23 @@
 // Bytes of the list: read as they come, and taken apart.
 ghost use Rattle.std.specs.Prelude.{◌<◌};
 
+use std::io::Read;
+
 // The byte that opens a record; 0 where the input ends.
-pub fn mark() -> u8 {
+pub fn mark<R: Read>(input: &mut R) -> u8 {
     let mut byte = [0u8; 1];
-    if io::read_full(0, &mut byte) == 0 {
+    if input.read_exact(&mut byte).is_err() {
         return 0;
     }
     byte[0]
 }
 
 // Reads `n` bytes to the front of a buffer. False where it has no room, or the input ends before.
-pub fn fill(buffer: &mut [u8], n: usize) -> bool {
+pub fn fill<R: Read>(input: &mut R, buffer: &mut [u8], n: usize) -> bool {
     if buffer.len() < n {
         return false;
     }
-    io::read_full(0, &mut buffer[0..n]) == n
+    input.read_exact(&mut buffer[0..n]).is_ok()
 }
 
 // The first `n` bytes, or all where there are fewer.

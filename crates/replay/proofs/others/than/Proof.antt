@@ -3,14 +3,14 @@ use Rattle.std.proofs.Common.{◌-◌, rules}
 use Rattle.replay.proofs.others.than.Statement.{statement}
 use Rattle.replay.proofs.others.than.Tie as tie
 
-abbrev invariant-loop : tie.invariant-loop
+abbrev invariant-loop : tie.invariant-loop-i
 invariant-loop table from to value others₀ i₀ others i = Unit {0}
 
-abbrev decreases-loop : tie.decreases-loop
+abbrev decreases-loop : tie.decreases-loop-i
 decreases-loop table from to value others₀ i₀ others i = to - i
 
-pub than-spec : {M : Type 1} → statement M
-than-spec =
+pub than_spec : {M : Type 1} → statement M
+than_spec =
     tie.close
     (tie.spec
     invariant-loop

@@ -3,14 +3,14 @@ use Rattle.std.proofs.Common.{◌-◌, rules}
 use Rattle.replay.proofs.others.timings_than_listed.Statement.{statement}
 use Rattle.replay.proofs.others.timings_than_listed.Tie as tie
 
-abbrev invariant-loop : tie.invariant-loop
+abbrev invariant-loop : tie.invariant-loop-i
 invariant-loop table list at n others₀ i₀ j₀ others i j = Unit {0}
 
-abbrev decreases-loop : tie.decreases-loop
+abbrev decreases-loop : tie.decreases-loop-i
 decreases-loop table list at n others₀ i₀ j₀ others i j = n - i
 
-pub timings-than-listed-spec : {M : Type 1} → statement M
-timings-than-listed-spec =
+pub timings_than_listed_spec : {M : Type 1} → statement M
+timings_than_listed_spec =
     tie.close
     (tie.spec
     invariant-loop

@@ -3,14 +3,14 @@ use Rattle.std.proofs.Common.{◌≡◌, ◌-◌, length, rules}
 use Rattle.replay.proofs.tables.fill_timings.Statement.{statement}
 use Rattle.replay.proofs.tables.fill_timings.Tie as tie
 
-abbrev invariant-loop : tie.invariant-loop
+abbrev invariant-loop : tie.invariant-loop-i
 invariant-loop table₀ i₀ table i = length table ≡ length table₀
 
-abbrev decreases-loop : tie.decreases-loop
+abbrev decreases-loop : tie.decreases-loop-i
 decreases-loop table₀ i₀ table i = length table₀ - i
 
-pub fill-timings-spec : {M : Type 1} → statement M
-fill-timings-spec =
+pub fill_timings_spec : {M : Type 1} → statement M
+fill_timings_spec =
     tie.close
     (tie.spec
     invariant-loop

@@ -41,29 +41,14 @@ copy-bytes-requires : tie.Need-copy_bytes-requires
 unfolding payload_limit
 copy-bytes-requires c κs = omega (arith, its-end c.before)
 
-returns-3 : tie.Need-returns-then-size-gt-PAYLOAD_LIMIT
-unfolding payload_limit container_limit
-returns-3 c =
-    too_large _ _ c.if-buffer-lt-PAYLOAD_LIMIT.false c.if-container-gt-CONTAINER_LIMIT.false (rw c.in-Value.is at (answer c.before.before)) c.if-size-gt-PAYLOAD_LIMIT.true
-
 returns-4 : tie.Need-returns-in-Refused
 unfolding payload_limit container_limit
 returns-4 c =
     not_found _ _ c.if-buffer-lt-PAYLOAD_LIMIT.false c.if-container-gt-CONTAINER_LIMIT.false (rw c.in-Refused.is at (answer c.before.before))
 
-returns-5 : tie.Need-returns-in-Refused-skip
-unfolding payload_limit container_limit
-returns-5 c =
-    cut_short _ _ c.if-buffer-lt-PAYLOAD_LIMIT.false c.if-container-gt-CONTAINER_LIMIT.false (rw c.in-Value.is at (answer c.before.before.before.before.before)) c.if-size-gt-PAYLOAD_LIMIT.false
-    (rw (c.bits-limit.ensures, c.in-Refused-skip.is) at (c.skip.ensures c.args.container.now))
-
-returns-6 : tie.Need-returns-in-To
-unfolding payload_limit container_limit
-returns-6 c =
-    copied _ _ c.if-buffer-lt-PAYLOAD_LIMIT.false c.if-container-gt-CONTAINER_LIMIT.false (rw c.in-Value.is at (answer c.before.before.before.before.before.before.before.before)) c.if-size-gt-PAYLOAD_LIMIT.false
-    (its-end c.before.before.before.before) c.copy_bytes.ensures
-
+-- the test of the size is read by `omega`, so no step is named that is made of it
 pub take_spec : {M : Type 1} → statement M
+unfolding payload_limit container_limit
 take_spec =
     tie.close
     (tie.spec
@@ -75,7 +60,8 @@ take_spec =
     (λ c. search rules)
     (λ c. search rules)
     (λ c. search rules)
-    returns-3
+    (λ c.
+    too_large _ _ c.if-buffer-lt-PAYLOAD_LIMIT.false c.if-container-gt-CONTAINER_LIMIT.false (rw c.in-Value.is at (answer c.before.before)) (omega arith))
     (λ c. search rules)
     (λ c κs. search rules)
     (λ c. search rules)
@@ -84,6 +70,10 @@ take_spec =
     (λ c. search rules)
     copy-bytes-requires
     returns-4
-    returns-5
+    (λ c.
+    cut_short _ _ c.if-buffer-lt-PAYLOAD_LIMIT.false c.if-container-gt-CONTAINER_LIMIT.false (rw c.in-Value.is at (answer c.before.before.before.before.before)) (omega arith)
+    (rw (c.bits-limit.ensures, c.in-Refused-skip.is) at (c.skip.ensures c.args.container.now)))
     (λ c. search rules)
-    returns-6)
+    (λ c.
+    copied _ _ c.if-buffer-lt-PAYLOAD_LIMIT.false c.if-container-gt-CONTAINER_LIMIT.false (rw c.in-Value.is at (answer c.before.before.before.before.before.before.before.before)) (omega arith)
+    (its-end c.before.before.before.before) c.copy_bytes.ensures))

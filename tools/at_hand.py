@@ -79,11 +79,12 @@ def c_compiler():
     return found or stop(f"a C compiler is missing: {asked or 'cc, gcc or clang'} (in Debian, gcc)")
 
 
-def run(*command, quiet=False):
-    """Runs a command at the top of the repository, without input. It speaks on standard error; a quiet
-    one only where it fails."""
+def run(*command, folder=TOP, given="/dev/null", quiet=False):
+    """Runs a command in a folder, the top of the repository, on a file as its input, or on none. It speaks on
+    standard error; a quiet one only where it fails."""
     words = [str(word) for word in command]
-    said = subprocess.PIPE if quiet else None
-    done = subprocess.run(words, cwd=TOP, stdin=subprocess.DEVNULL, stdout=2, stderr=said)
+    out, said = (subprocess.PIPE, subprocess.STDOUT) if quiet else (2, None)
+    with open(given, "rb") as file:
+        done = subprocess.run(words, cwd=folder, stdin=file, stdout=out, stderr=said)
     if done.returncode != 0:
-        stop((done.stderr or b"").decode(errors="replace") + f"{pathlib.Path(words[0]).name} failed", 1)
+        stop((done.stdout or b"").decode(errors="replace") + f"{pathlib.Path(words[0]).name} failed", 1)

@@ -1,10 +1,7 @@
 """A program of the repository, proved and built where it is missing or older than the code."""
 
-import platform
-
 from at_hand import prover, run
-from crate_list import TOP
-from machine_code import own_part
+from crate_list import TOP, folder
 
 
 def is_current(made):
@@ -14,22 +11,16 @@ def is_current(made):
 
 
 def build(name, program):
-    """Proves and builds the program, unless it is current."""
+    """Proves and builds the program, unless it is current. `rt run` runs it, too: on what the gate runs it on."""
     if is_current(program):
         return
-    if not program.exists():
-        # Else an unchanged crate would not be built again.
-        (TOP / "target" / "stamp" / name).unlink(missing_ok=True)
-    run(prover(), "check", name)
+    given = folder(name) / "stdin"
+    run(prover(), "run", folder=folder(name), given=given if given.is_file() else "/dev/null", quiet=True)
     program.touch()
 
 
 def command(name):
-    """How the program is run here: it is code for x86-64, and elsewhere the kit's emulator runs it."""
-    program = TOP / "target" / "bin" / name
+    """How the program is run. It is code for x86-64, as all that `rt run` builds."""
+    program = folder(name) / "out" / name
     build(name, program)
-    if platform.machine() == "x86_64":
-        return [str(program)]
-    tools = own_part() / "toolchain"
-    loader = tools / "lib" / "ld-linux-x86-64.so.2"
-    return [str(word) for word in (tools / "bin" / "qemu-x86_64", loader, "--library-path", tools / "lib", program)]
+    return [str(program)]

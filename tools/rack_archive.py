@@ -1,12 +1,11 @@
 """Makes the archive of the crate `rack`, for C or Rust to link; the crate is proved first."""
 
-import pathlib
 import platform
-import tempfile
+import shutil
 
 from at_hand import named_file, prover, run, stop
-from crate_list import TOP
-from machine_code import compiled, own_part
+from crate_list import TOP, folder
+from machine_code import target
 from proved_program import is_current
 
 NAME = "rack"
@@ -44,14 +43,9 @@ def kept(machine=platform.machine()):
 
 
 def made(machine=platform.machine()):
-    """The archive for a machine."""
+    """The archive for a machine. `rt lib` writes it into the crate's out/, whatever the machine is."""
     archive = path(machine)
-    if machine == "x86_64":
-        run(prover(), "staticlib", NAME)
-        return archive
-    archive.unlink(missing_ok=True)
+    run(prover(), "lib", *target(machine), folder=folder(NAME))
     FOLDER.mkdir(parents=True, exist_ok=True)
-    with tempfile.TemporaryDirectory() as folder:
-        code = compiled(NAME, machine, pathlib.Path(folder) / f"{NAME}.o")
-        run(own_part() / "toolchain" / "bin" / "llvm-ar", "rcs", archive, code)
+    shutil.move(folder(NAME) / "out" / f"lib{NAME}.a", archive)
     return archive

@@ -16,47 +16,43 @@ FRAME = named_numbers("timing")["SAMPLES_PER_JOC_FRAME"]
 BLOCKS = named_numbers("rows")["BLOCK_LIMIT"]
 
 CHOICES = """-- Whether the definitions choose rows and fraction as the oracle did.
-use Prim.Native.Nat.{ℕ}
-use mathlib.Core.Bool.{Bool, true, false, not, _&&_}
-use mathlib.Core.List.{List, [], _∷_}
-use lib.Dec.{eqb}
-use lib.IntN.{ℤ}
-use lib.Ieee.{Float, nan, inf, fin, div, ofInt}
-use Rattle·standard.specs.Calls.{timingCall, rampCall}
-use Rattle·standard.specs.Computed.{computed}
-use Rattle·standard.specs.Rows.{eqℤ}
-use Rattle·standard.specs.Cases.{same}
+use Rattle.std.specs.Prelude.{ℕ, Bool, true, false, not, ◌&&◌, List, [], ◌∷◌, eqb, ℤ, Float}
+use Rattle.std.specs.Float.{nan, inf, fin}
+use Rattle.std.specs.Float.Ieee.{div, of_int}
+use Rattle.standard.specs.Calls.{timing_call, ramp_call}
+use Rattle.standard.specs.Computed.{computed}
+use Rattle.standard.specs.Rows.{eqℤ}
+use Rattle.standard.specs.Cases.{same}
 
 pub data Case : Type 0 where
   -- timings, how many blocks, a sample; the timing test's number, from row, to row; the fraction m * 2 ^ e
   chooses : List ℕ → ℕ → ℕ → List ℕ → ℕ → ℤ → Case
 
 -- a float is written with an odd m, so in one way alone
-unfoldable pub isFloat : Float → ℕ → ℤ → Bool
-isFloat nan m e = false
-isFloat (inf s) m e = false
-isFloat (fin s n d) m e = not s && eqb n m && eqℤ d e
+unfoldable pub is_float : Float → ℕ → ℤ → Bool
+is_float nan m e = false
+is_float (inf s) m e = false
+is_float (fin s n d) m e = not s && eqb n m && eqℤ d e
 
 unfoldable pub holds : Case → Bool
 holds (chooses ts blocks sample chosen m e) =
-    let r = rampCall ts blocks sample in
-    same (r .number ∷ timingCall ts blocks ∷ r .choice .from ∷ r .choice .to ∷ []) (0 ∷ chosen)
-    && isFloat (r .fraction) m e
+    let r = ramp_call ts blocks sample in
+    same (r.number ∷ timing_call ts blocks ∷ r.choice.from ∷ r.choice.to ∷ []) (0 ∷ chosen)
+    && is_float r.fraction m e
 
-unfoldable pub allHold : List Case → Bool
-allHold [] = true
-allHold (c ∷ cs) = holds c && allHold cs
+unfoldable pub all_hold : List Case → Bool
+all_hold [] = true
+all_hold (c ∷ cs) = holds c && all_hold cs
 
-unfoldable pub openedChoices : Unit {0}
-unfolding computed same div ofInt isFloat holds allHold
-openedChoices = tt
+unfoldable pub opened_choices : Unit {0}
+unfolding computed same div of_int is_float holds all_hold
+opened_choices = tt
 """
 
 HEAD = """-- Timings, and what the oracle chose.
-use mathlib.Core.List.{[], _∷_}
 use lib.Dec.{T}
-use lib.IntN.{pos, negsuc}
-use Rattle·compared·specs.specs.Choices.{chooses, allHold, openedChoices}
+use Rattle.std.specs.Prelude.{[], ◌∷◌, pos, negsuc}
+use Rattle.compared.specs.Choices.{chooses, all_hold, opened_choices}
 """
 
 
@@ -112,5 +108,5 @@ def modules(found):
     text = HEAD
     for number, first in enumerate(range(0, len(found), CASES_IN_A_THEOREM)):
         lines = "".join(f"    {chooses(case)} ∷\n" for case in found[first : first + CASES_IN_A_THEOREM])
-        text += f"\nramps{number} : T (allHold (\n{lines}    []))\nunfolding openedChoices\nramps{number} = tt\n"
+        text += f"\nramps{number} : T (all_hold (\n{lines}    []))\nunfolding opened_choices\nramps{number} = tt\n"
     return {"Choices": CHOICES, "Ramps": text}

@@ -9,6 +9,8 @@ from crate_list import TOP
 
 SCRATCH = TOP / "target" / "definitions"
 DEFINITIONS = ["bits", "standard"]
+# What the prover says of a theorem whose statement computes to what is false, or to no end.
+WRONG = re.compile(r": error: `(\w+)`: (?:expected type `⊥`|as printed, the two types first differ)")
 
 
 def write_crate(name, modules):
@@ -54,11 +56,12 @@ def write(modules):
 
 def refused_theorems():
     """The names of the theorems that the prover refuses; any other error ends the program."""
-    done = subprocess.run(["rt", "check", "compared"], cwd=SCRATCH, stdout=subprocess.PIPE, stderr=subprocess.STDOUT)
+    folder = SCRATCH / "crates" / "compared"
+    done = subprocess.run(["rt", "check"], cwd=folder, stdout=subprocess.PIPE, stderr=subprocess.STDOUT)
     text = done.stdout.decode()
     (SCRATCH / "prover.log").write_text(text, encoding="utf-8")
-    names = re.findall(r": error: `(\w+)`: as printed, the two types first differ", text)
-    proved = done.returncode == 0 and text.count("rt: compared proved") == 1
+    names = WRONG.findall(text)
+    proved = done.returncode == 0 and re.search(r"^crate compared: .*\nlogic=proved .*\n\Z", text, re.MULTILINE)
     if len(names) != text.count(": error: ") or proved == bool(names):
         stop(f"{text}\nthe prover refused something other than a compared number", 2)
     return set(names)

@@ -13,20 +13,16 @@ COMPARED = named_numbers("rows")["MARK"]
 ROWS = ["start_row", "block_row", "retained_row"]
 NUMBERS_OF_OK = ["timings", *ROWS]
 # The call that each record without a payload stands for, by its name in the definitions.
-CALLS = {"start": "programmeStart", "reset": "reset", "gap": "gap"}
+CALLS = {"start": "programme_start", "reset": "reset", "gap": "gap"}
 
 AGREEMENT = """-- Whether the definitions say to payloads what the oracle said.
-use Prim.Native.Nat.{ℕ, zero, suc, _*_}
-use mathlib.Core.Bool.{Bool, true, _&&_}
-use mathlib.Core.List.{List, [], _∷_, _++_}
-use lib.IntN.{ℤ, pos}
-use lib.ListN.{take, drop, getD, replicate}
-use Rattle·standard.specs.Numbers.{rowWidth, retainedHead, retainedLength, markAt}
-use Rattle·standard.specs.Calls.{Lent, Done, Kept, decode}
-use Rattle·standard.specs.Journal.{freshTables}
-use Rattle·standard.specs.Computed.{computed}
-use Rattle·standard.specs.Rows.{eqℤ}
-use Rattle·standard.specs.Cases.{same, sameℤ, answerNumbers}
+use Rattle.std.specs.Prelude.{ℕ, zero, suc, ◌*◌, Bool, true, ◌&&◌, List, [], ◌∷◌, ◌++◌, ℤ, pos, get_or, take, drop, replicate}
+use Rattle.standard.specs.Numbers.{row_width, retained_head, retained_length, mark_at}
+use Rattle.standard.specs.Calls.{Lent, Done, Kept, decode}
+use Rattle.standard.specs.Journal.{fresh_tables}
+use Rattle.standard.specs.Computed.{computed}
+use Rattle.standard.specs.Rows.{eqℤ}
+use Rattle.standard.specs.Cases.{same, sameℤ, answer_numbers}
 
 -- what an acceptance says: objects and blocks; timings; start rows and block rows without their marks
 pub record Frame : Type 0 where
@@ -48,55 +44,54 @@ pub data Said : Type 0 where
 -- the first n rows of a table; a mark stands last in its row
 unfoldable pub unmarked : ℕ → List ℤ → List ℤ
 unmarked zero l = []
-unmarked (suc n) l = take markAt l ++ unmarked n (drop rowWidth l)
+unmarked (suc n) l = take mark_at l ++ unmarked n (drop row_width l)
 
 -- number, context, place, objects, blocks, missing bits; the unsettled count, which is not the oracle's, is left out
-unfoldable pub numbersOf : Done → List ℕ
-numbersOf d =
-    let numbers = answerNumbers (d .answer) in
+unfoldable pub numbers_of : Done → List ℕ
+numbers_of d =
+    let numbers = answer_numbers d.answer in
     take 5 numbers ++ drop 6 numbers
 
-unfoldable pub isVerdict : Verdict → Done → Bool
-isVerdict (refuses n c p m) d = same (numbersOf d) (n ∷ c ∷ p ∷ 0 ∷ 0 ∷ m ∷ [])
-isVerdict (accepts f) d =
-    same (numbersOf d) (0 ∷ 0 ∷ 0 ∷ f .objects ∷ f .blocks ∷ 0 ∷ [])
-    && same (take (2 * f .blocks) (d .lent .timings)) (f .timings)
-    && sameℤ (unmarked (f .objects) (d .lent .start)) (f .start)
-    && sameℤ (unmarked (f .objects * f .blocks) (d .lent .blocks)) (f .updates)
+unfoldable pub is_verdict : Verdict → Done → Bool
+is_verdict (refuses n c p m) d = same (numbers_of d) (n ∷ c ∷ p ∷ 0 ∷ 0 ∷ m ∷ [])
+is_verdict (accepts f) d =
+    same (numbers_of d) (0 ∷ 0 ∷ 0 ∷ f.objects ∷ f.blocks ∷ 0 ∷ [])
+    && same (take (2 * f.blocks) d.lent.timings) f.timings
+    && sameℤ (unmarked f.objects d.lent.start) f.start
+    && sameℤ (unmarked (f.objects * f.blocks) d.lent.blocks) f.updates
 
 unfoldable pub retains : ℕ → List ℤ → List ℤ → Bool
-retains n rows l = eqℤ (getD l 0 (pos 0)) (pos n) && sameℤ (unmarked n (drop retainedHead l)) rows
+retains n rows l = eqℤ (get_or l 0 (pos 0)) (pos n) && sameℤ (unmarked n (drop retained_head l)) rows
 
 -- the frame tables are lent anew; the retained one goes from record to record
 abbrev pub lend : List ℤ → Lent
 lend l =
-    let f = freshTables in
-    record { retained = l; start = f .start; blocks = f .blocks; timings = f .timings }
+    let f = fresh_tables in
+    record { retained = l; start = f.start; blocks = f.blocks; timings = f.timings }
 
 unfoldable pub agrees : List ℤ → List Said → Bool
 agrees l [] = true
 agrees l (calls call n rows ∷ rest) =
-    let r = call l .retained in
+    let r = (call l).retained in
     retains n rows r && agrees r rest
 agrees l (says s v n rows ∷ rest) =
     let d = decode s (lend l) in
-    isVerdict v d && retains n rows (d .lent .retained) && agrees (d .lent .retained) rest
+    is_verdict v d && retains n rows d.lent.retained && agrees d.lent.retained rest
 
 -- a programme start, with which each sequence begins, looks at no number
-abbrev pub anyNumbers : List ℤ
-anyNumbers = replicate retainedLength (pos 7)
+abbrev pub any_numbers : List ℤ
+any_numbers = replicate retained_length (pos 7)
 
 unfoldable pub opened : Unit {0}
-unfolding computed same sameℤ answerNumbers unmarked numbersOf isVerdict retains agrees
+unfolding computed same sameℤ answer_numbers unmarked numbers_of is_verdict retains agrees
 opened = tt
 """
 
 HEAD = """-- Sequences of payloads, and what the oracle said to each.
-use mathlib.Core.List.{[], _∷_}
 use lib.Dec.{T}
-use lib.IntN.{pos, negsuc}
-use Rattle·standard.specs.Calls.{programmeStart, reset, gap}
-use Rattle·compared·specs.specs.Agreement.{Frame, refuses, accepts, calls, says, agrees, anyNumbers, opened}
+use Rattle.std.specs.Prelude.{[], ◌∷◌, pos, negsuc}
+use Rattle.standard.specs.Calls.{programme_start, reset, gap}
+use Rattle.compared.specs.Agreement.{Frame, refuses, accepts, calls, says, agrees, any_numbers, opened}
 """
 
 
@@ -177,7 +172,7 @@ def said(record):
 def theorem(number, records):
     lines = "".join(f"    {said(record)} ∷\n" for record in records)
     name = f"sequence{number}"
-    return f"\n{name} : T (agrees anyNumbers (\n{lines}    []))\nunfolding opened\n{name} = tt\n"
+    return f"\n{name} : T (agrees any_numbers (\n{lines}    []))\nunfolding opened\n{name} = tt\n"
 
 
 def modules(found):

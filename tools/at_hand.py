@@ -79,11 +79,11 @@ def c_compiler():
     return found or stop(f"a C compiler is missing: {asked or 'cc, gcc or clang'} (in Debian, gcc)")
 
 
-def run(*command, folder=TOP, given="/dev/null", quiet=False):
-    """Runs a command in a folder, the top of the repository, on a file as its input, or on none. It speaks on
-    standard error; a quiet one only where it fails."""
+def run(*command, folder=TOP, given="/dev/null", out=2, quiet=False):
+    """Runs a command in a folder, else at the top of the repository, on a file as its input, or on none. It
+    speaks on standard error; a quiet one only where it fails."""
     words = [str(word) for word in command]
-    out, said = (subprocess.PIPE, subprocess.STDOUT) if quiet else (2, None)
+    out, said = (subprocess.PIPE, subprocess.STDOUT) if quiet else (out, None)
     with open(given, "rb") as file:
         done = subprocess.run(words, cwd=folder, stdin=file, stdout=out, stderr=said)
     if done.returncode != 0:

@@ -1,5 +1,7 @@
 """A program of the repository, proved and built where it is missing or older than the code."""
 
+import subprocess
+
 from at_hand import prover, run
 from crate_list import TOP, folder
 
@@ -11,11 +13,12 @@ def is_current(made):
 
 
 def build(name, program):
-    """Proves and builds the program, unless it is current. `rt run` runs it, too: on what the gate runs it on."""
+    """Proves and builds the program, unless it is current. `rt run` runs it, too: on the gate's own input."""
     if is_current(program):
         return
     given = folder(name) / "stdin"
-    run(prover(), "run", folder=folder(name), given=given if given.is_file() else "/dev/null", quiet=True)
+    given = given if given.is_file() else "/dev/null"
+    run(prover(), "run", folder=folder(name), given=given, out=subprocess.DEVNULL)
     program.touch()
 
 

@@ -31,10 +31,10 @@ timed c = c.before.before.before
 
 -- what is left to read goes by what stands before the objects
 at_head : (c : tie.After-parse_block_timings) {r : Number} → c.parse_block_timings.result ≡ r →
-    let n = length (entry c).args.kinds.now in
-    let ks = map kind_of (entry c).args.kinds.now in
-    Filling timings_length (map_parsed (left_by (rows_of n (entry c).args.start.now) (entry c).args.timings.now (entry c).args.blocks.now) (object_element ks (entry c).args.payload.now (entry c).args.limit.0 (entry c).args.at.0)) (entry c).args.timings.now
-    (and_then (timed_as c.parse_block_timings.new.timings r) (λ h q. map_parsed (left h.count h.table) (objects_from n h.count (entry c).args.start.now 0 ks (entry c).args.blocks.now (entry c).args.payload.now (entry c).args.limit.0 q)))
+    let n = length c.args.kinds.now in
+    let ks = map kind_of c.args.kinds.now in
+    Filling timings_length (map_parsed (left_by (rows_of n c.args.start.now) c.args.timings.now c.args.blocks.now) (object_element ks c.args.payload.now c.args.limit.0 c.args.at.0)) c.args.timings.now
+    (and_then (timed_as c.parse_block_timings.new.timings r) (λ h q. map_parsed (left h.count h.table) (objects_from n h.count c.args.start.now 0 ks c.args.blocks.now c.args.payload.now c.args.limit.0 q)))
     c.parse_block_timings.new.timings
 at_head c e =
     let start = entry c in
@@ -45,18 +45,18 @@ cut-timings c = element-left _ _ (at_head c.before.before.before c.in-Refused.is
 
 -- the rows fit their table
 used : (c : tie.In-Value) →
-    c.in-Value.block_count * length (entry (timed c)).args.kinds.now * row_width ≤ blocks_length
+    c.in-Value.block_count * length c.args.kinds.now * row_width ≤ blocks_length
 unfolding map_p
 used c =
     let h = timed c in
-    fit _ _ (gives (timed_as _) (few-timed _) (sym {a = map_p (timed_by (entry h).args.timings.now) block_timings (entry h).args.payload.now (entry h).args.limit.0 (entry h).args.at.0} h.parse_block_timings.ensures.same) c.in-Value.is) (entry h).requires.few
+    fit _ _ (gives (timed_as _) (few-timed _) (sym {a = map_p (timed_by c.args.timings.now) block_timings c.args.payload.now c.args.limit.0 c.args.at.0} h.parse_block_timings.ensures.same) c.in-Value.is) c.requires.few
 
 parse-objects-requires : tie.Need-parse_objects-requires
 parse-objects-requires c κs = let u = used c.before in search rules
 
 abbrev objects-read : tie.In-Value → Parsed (List ℤ)
 objects-read c =
-    objects_from (length (entry (timed c)).args.kinds.now) c.in-Value.block_count (entry (timed c)).args.start.now 0 (map kind_of (entry (timed c)).args.kinds.now) (entry (timed c)).args.blocks.now (entry (timed c)).args.payload.now (entry (timed c)).args.limit.0 c.in-Value.next.0
+    objects_from (length c.args.kinds.now) c.in-Value.block_count c.args.start.now 0 (map kind_of c.args.kinds.now) c.args.blocks.now c.args.payload.now c.args.limit.0 c.in-Value.next.0
 
 cut-objects : tie.Need-returns-in-Refused-parse_objects
 cut-objects c =

@@ -35,7 +35,7 @@ sized c = c.before.before.before.before
 room : (c : tie.Else-not-has_room) → has_room (tables (roomy c)) ≡ true
 room c = sym c.has_room.ensures ∙ not-false _ c.if-not-has_room.false-raw
 
-form : (c : tie.Else-not-in_form) → in_form (roomy (formed c)).args.retained.now ≡ true
+form : (c : tie.Else-not-in_form) → in_form c.args.retained.now ≡ true
 form c = sym c.in_form.ensures ∙ not-false _ c.if-not-in_form.false-raw
 
 settles : (c : tie.Else-payload-gt-PAYLOAD_LIMIT) →
@@ -77,7 +77,7 @@ returns-4 c =
 -- The frame was read, and tells of a tree
 
 tells : (c : tie.In-Frame) →
-    Tells (state_of (roomy (formed (sized c.before.before.before.before.before).before)).args.retained.now) (lending (roomy (formed (sized c.before.before.before.before.before).before)).args.start.now (roomy (formed (sized c.before.before.before.before.before).before)).args.blocks.now (roomy (formed (sized c.before.before.before.before.before).before)).args.timings.now) (roomy (formed (sized c.before.before.before.before.before).before)).args.payload.now
+    Tells (state_of c.args.retained.now) (lending c.args.start.now c.args.blocks.now c.args.timings.now) c.args.payload.now
     (record {
       objects = c.in-Frame.object_count;
       count = c.in-Frame.block_count;

@@ -27,9 +27,6 @@ decreases-loop payload limit list kinds start blocks₀ timings₀ found₀ plac
 
 -- back from what was read of an element
 
-abbrev entry : tie.In-loop invariant-loop decreases-loop → tie.Start invariant-loop decreases-loop
-entry c = c.before.before.before.before.before
-
 abbrev looped : tie.In-Is invariant-loop decreases-loop → tie.In-loop invariant-loop decreases-loop
 looped c = c.before.before
 
@@ -39,7 +36,7 @@ head c = c.before.before.before
 parse-content-requires : tie.Need-parse_content-requires invariant-loop decreases-loop
 parse-content-requires c κs =
     let l = looped c.before.before in
-    record { few = (entry l).requires.1.few; its_start = (entry l).requires.1.its_start; for_blocks = omega arith; for_timings = omega arith }
+    record { few = c.requires.1.few; its_start = c.requires.1.its_start; for_blocks = omega arith; for_timings = omega arith }
 
 cut-head : tie.Need-returns-in-Refused invariant-loop decreases-loop
 cut-head c =
@@ -54,7 +51,7 @@ cut-content c =
 add-counter : tie.Need-overflow_step invariant-loop decreases-loop
 add-counter c =
     let l = looped (head c.before.before.before.before.before) in
-    omega (arith, l.loop-test.true, (entry l).well_formed)
+    omega (arith, l.loop-test.true, c.well_formed)
 
 loop-again : tie.Need-loop-preserved invariant-loop decreases-loop
 loop-again c =
@@ -69,7 +66,7 @@ parse_elements_spec =
     invariant-loop
     decreases-loop
     (λ c. begin)
-    (λ c κs. (entry c).requires.0)
+    (λ c κs. c.requires.0)
     (λ c. search rules)
     (λ c. (cut-head c).behind.blocks_long)
     (λ c. (cut-head c).behind.timings_long)

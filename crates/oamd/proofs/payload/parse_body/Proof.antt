@@ -17,27 +17,24 @@ use Rattle.oamd.proofs.Telling.{untold}
 use Rattle.oamd.proofs.payload.parse_body.Statement.{statement}
 use Rattle.oamd.proofs.payload.parse_body.Tie as tie
 
-abbrev entry : tie.After-write_starts → tie.Start
-entry c = c.before.before.before.before.before.before.before.before
-
 abbrev written : tie.After-write_starts → List ℤ
 written c =
-    over (rows_numbers (start_rows (state_of (entry c).args.retained.now) (map kind_of (entry c).args.kinds.now))) (entry c).args.start.now
+    over (rows_numbers (start_rows (state_of c.args.retained.now) (map kind_of c.args.kinds.now))) c.args.start.now
 
 -- the start rows are written, and nothing behind them
 begun : (c : tie.After-write_starts) →
-    rows_of (length (entry c).args.kinds.now) c.write_starts.new.start ≡ start_rows (state_of (entry c).args.retained.now) (map kind_of (entry c).args.kinds.now)
+    rows_of (length c.args.kinds.now) c.write_starts.new.start ≡ start_rows (state_of c.args.retained.now) (map kind_of c.args.kinds.now)
 begun c =
-    ap (rows_of (length (entry c).args.kinds.now)) {y = written c} c.write_starts.ensures ∙ starts-back (entry c).args.kinds.now (entry c).args.retained.now (entry c).args.start.now
+    ap (rows_of (length c.args.kinds.now)) {y = written c} c.write_starts.ensures ∙ starts-back c.args.kinds.now c.args.retained.now c.args.start.now
 
-rest : (c : tie.After-write_starts) → drop start_length c.write_starts.new.start ≡ drop start_length (entry c).args.start.now
+rest : (c : tie.After-write_starts) → drop start_length c.write_starts.new.start ≡ drop start_length c.args.start.now
 rest c =
-    ap (drop start_length) {y = written c} c.write_starts.ensures ∙ starts-rest (entry c).args.kinds.now (entry c).args.retained.now (entry c).args.start.now (entry c).requires.1.0 (entry c).requires.1.1.1.for_start
+    ap (drop start_length) {y = written c} c.write_starts.ensures ∙ starts-rest c.args.kinds.now c.args.retained.now c.args.start.now c.requires.1.0 c.requires.1.1.1.for_start
 
 parse-elements-requires : tie.Need-parse_elements-elements-requires
 unfolding row_width object_limit start_length
 parse-elements-requires c κs =
-    ((entry c.before.before.before).requires.0, record { few = (entry c.before.before.before).requires.1.0; its_start = omega arith; for_blocks = (entry c.before.before.before).requires.1.1.1.for_blocks; for_timings = (entry c.before.before.before).requires.1.1.1.for_timings })
+    (c.requires.0, record { few = c.requires.1.0; its_start = omega arith; for_blocks = c.requires.1.1.1.for_blocks; for_timings = c.requires.1.1.1.for_timings })
 
 cast-end-payload : tie.Need-overflow_cast-kinds
 unfolding object_limit
@@ -64,7 +61,7 @@ returns-3 c =
         ← c.read_element_count.ensures,
         c.in-Value.is,
         rw (begun c.before.before.before.before.before.before.before.before) at c.parse_elements-elements.ensures.same,
-        length-map (entry c.before.before.before.before.before.before.before.before).args.kinds.now kind_of,
+        length-map c.args.kinds.now kind_of,
         ← c.write_starts.ensures,
       )
           (c.end_payload.ensures _ _ _);

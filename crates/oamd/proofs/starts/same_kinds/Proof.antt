@@ -36,24 +36,24 @@ kinds : (c : tie.Start invariant-loop decreases-loop) → length (map kind_of c.
 kinds c = length-map c.args.kinds.now kind_of
 
 -- as many rows are retained as there are kinds
-counted : (c : tie.Else-count_of-kinds invariant-loop decreases-loop) → count_of (entry c).args.retained.now ≡ length (entry c).args.kinds.now
+counted : (c : tie.Else-count_of-kinds invariant-loop decreases-loop) → count_of c.args.retained.now ≡ length c.args.kinds.now
 counted c = sym c.count_of.ensures.same ∙ c.if-count_of-kinds.false
 
 as_many : (c : tie.Else-count_of-kinds invariant-loop decreases-loop) →
-    length (state_of (entry c).args.retained.now).rows ≡ length (map kind_of (entry c).args.kinds.now)
-as_many c = rows-count (entry c).args.retained.now ∙ counted c ∙ sym (kinds (entry c))
+    length (state_of c.args.retained.now).rows ≡ length (map kind_of c.args.kinds.now)
+as_many c = rows-count c.args.retained.now ∙ counted c ∙ sym (kinds (entry c))
 
 -- what the test was of
 tested : (c : tie.After-is_kind invariant-loop decreases-loop) →
     let l = looped c in
-    is (kind_code (get_or (map kind_of (entry l.before).args.kinds.now) l.loop-object.object lfe)) (get_or (state_of (entry l.before).args.retained.now).rows l.loop-object.object no_row).kind
+    is (kind_code (get_or (map kind_of c.args.kinds.now) l.loop-object.object lfe)) (get_or (state_of c.args.retained.now).rows l.loop-object.object no_row).kind
     ≡ c.is_kind.result
 unfolding row_width retained_head
 tested c =
     let l = looped c in
-    let kind = back {z = get_or (entry l.before).args.kinds.now l.loop-object.object (pos 0)} c.is_kind-arg-1.given in
+    let kind = back {z = get_or c.args.kinds.now l.loop-object.object (pos 0)} c.is_kind-arg-1.given in
     let held = back {z = c.kind_at-held.result} c.kind_at-held.type_inv ∙ c.kind_at-held.ensures in
-    kind-tested (entry l.before).args.kinds.now (entry l.before).args.retained.now (counted l.before) l.loop-object.object c.loop-object-test.true
+    kind-tested c.args.kinds.now c.args.retained.now (counted l.before) l.loop-object.object c.loop-object-test.true
     ∙ sym (c.is_kind.ensures ∙ (λ i. is (kind_code (kind_of (kind i))) (held i)))
 
 returns : tie.Need-returns-then-count_of-kinds invariant-loop decreases-loop

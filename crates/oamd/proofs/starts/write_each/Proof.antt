@@ -32,16 +32,13 @@ decreases-loop retained kinds start₀ held object₀ end start object = length 
 abbrev looped : tie.After-start_row-row invariant-loop decreases-loop → tie.At-loop-object invariant-loop decreases-loop
 looped c = c.before.before.before
 
-abbrev entry : tie.At-loop-object invariant-loop decreases-loop → tie.Start invariant-loop decreases-loop
-entry c = c.before
-
 count : (c : tie.At-loop-object invariant-loop decreases-loop) →
-    length (start_rows (state_of (entry c).args.retained.now) (map kind_of (entry c).args.kinds.now)) ≡ length (entry c).args.kinds.now
+    length (start_rows (state_of c.args.retained.now) (map kind_of c.args.kinds.now)) ≡ length c.args.kinds.now
 count c =
-    starts-count (entry c).args.kinds.now (entry c).args.retained.now
+    starts-count c.args.kinds.now c.args.retained.now
 
 fits : (c : tie.At-loop-object invariant-loop decreases-loop) →
-    length (start_rows (state_of (entry c).args.retained.now) (map kind_of (entry c).args.kinds.now)) * row_width ≤ length (entry c).args.start.now
+    length (start_rows (state_of c.args.retained.now) (map kind_of c.args.kinds.now)) * row_width ≤ length c.args.start.now
 unfolding row_width object_limit start_length
 fits c =
     let n = count c in
@@ -50,13 +47,13 @@ fits c =
 -- the row that was found is the next one
 found : (c : tie.After-start_row-row invariant-loop decreases-loop) →
     let l = looped c in
-    row_said c.start_row-row.result ≡ get_or (start_rows (state_of (entry l).args.retained.now) (map kind_of (entry l).args.kinds.now)) l.loop-object.object no_row
+    row_said c.start_row-row.result ≡ get_or (start_rows (state_of c.args.retained.now) (map kind_of c.args.kinds.now)) l.loop-object.object no_row
 found c =
     let l = looped c in
-    let kind = back {z = get_or (entry l).args.kinds.now l.loop-object.object (pos 0)} c.start_row-arg-1.given in
+    let kind = back {z = get_or c.args.kinds.now l.loop-object.object (pos 0)} c.start_row-arg-1.given in
     c.start_row-row.ensures
-    ∙ (λ i. cond ((entry l).requires.1.1.1 i) (held_row (state_of (entry l).args.retained.now).doubt (row_at (entry l).args.retained.now (retained_head + l.loop-object.object * row_width))) (default_row (state_of (entry l).args.retained.now).doubt (kind_of (kind i))))
-    ∙ sym (start-found (entry l).args.kinds.now (entry l).args.retained.now l.loop-object.object c.loop-object-test.true)
+    ∙ (λ i. cond (c.requires.1.1.1 i) (held_row (state_of c.args.retained.now).doubt (row_at c.args.retained.now (retained_head + l.loop-object.object * row_width))) (default_row (state_of c.args.retained.now).doubt (kind_of (kind i))))
+    ∙ sym (start-found c.args.kinds.now c.args.retained.now l.loop-object.object c.loop-object-test.true)
 
 loop-again : tie.Need-loop-object-preserved invariant-loop decreases-loop
 unfolding row_width

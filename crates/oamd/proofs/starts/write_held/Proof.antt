@@ -39,16 +39,16 @@ returns c =
 abbrev counted : tie.At-loop-object invariant-loop decreases-loop → tie.After-count_of-count invariant-loop decreases-loop
 counted c = c.before.before.before
 
-count : (c : tie.At-loop-object invariant-loop decreases-loop) → length (held_rows (state_of (counted c).args.retained.now)) ≡ (counted c).count_of-count.result
-count c = held-count (counted c).args.retained.now ∙ sym (counted c).count_of-count.ensures.same
+count : (c : tie.At-loop-object invariant-loop decreases-loop) → length (held_rows (state_of c.args.retained.now)) ≡ (counted c).count_of-count.result
+count c = held-count c.args.retained.now ∙ sym (counted c).count_of-count.ensures.same
 
-fits : (c : tie.At-loop-object invariant-loop decreases-loop) → length (held_rows (state_of (counted c).args.retained.now)) * row_width ≤ length (counted c).args.start.now
+fits : (c : tie.At-loop-object invariant-loop decreases-loop) → length (held_rows (state_of c.args.retained.now)) * row_width ≤ length c.args.start.now
 unfolding row_width
 fits c = let n = count c in omega (arith, (room (counted c)).1)
 
 -- the row that was made is the next one
 found : (c : tie.After-held_row-held invariant-loop decreases-loop) →
-    row_said c.held_row-held.result ≡ get_or (held_rows (state_of (counted c.before.before.before.before).args.retained.now)) c.loop-object.object no_row
+    row_said c.held_row-held.result ≡ get_or (held_rows (state_of c.args.retained.now)) c.loop-object.object no_row
 unfolding row_width retained_head state_of
 found c =
     let k = counted c.before.before.before.before in
@@ -79,7 +79,7 @@ write_held_spec =
     (λ c. omega (arith, (room (counted c.before)).0))
     (λ c. omega (arith, (room (counted c.before)).0))
     (λ c κs. omega (arith, (room (counted c.before)).0))
-    (λ c. omega (arith, (counted c.before.before).requires.0.long))
+    (λ c. omega (arith, c.requires.0.long))
     (λ c κs. search rules)
     (λ c. omega (arith, (room (counted c.before.before.before.before.before)).1))
     (λ c κs. omega (arith, (room (counted c.before.before.before.before.before)).1, write-long (fits c.before.before.before.before.before) c.loop-object.invariant))

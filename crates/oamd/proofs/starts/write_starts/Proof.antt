@@ -29,17 +29,17 @@ room : (c : tie.Start) → length c.args.kinds.now * row_width ≤ length c.args
 unfolding row_width object_limit start_length
 room c = omega (arith, c.requires.1)
 
-held : (c : tie.Then-held-retained) → same_kinds (map kind_of (entry c).args.kinds.now) (state_of (entry c).args.retained.now).rows ≡ true
+held : (c : tie.Then-held-retained) → same_kinds (map kind_of c.args.kinds.now) (state_of c.args.retained.now).rows ≡ true
 held c = sym c.same_kinds-held.ensures ∙ and_left _ _ c.if-held-retained.true
 
-calm : (c : tie.Then-held-retained) → is 0 (state_of (entry c).args.retained.now).doubt ≡ true
+calm : (c : tie.Then-held-retained) → is 0 (state_of c.args.retained.now).doubt ≡ true
 unfolding state_of
-calm c = sym (bits_is 0 (get_or (entry c).args.retained.now doubt_at (pos 0)) (omega arith) (search rules)) ∙ and_right c.same_kinds-held.result _ c.if-held-retained.true
+calm c = sym (bits_is 0 (get_or c.args.retained.now doubt_at (pos 0)) (omega arith) (search rules)) ∙ and_right c.same_kinds-held.result _ c.if-held-retained.true
 
 returns : tie.Need-returns-then-held-retained
 unfolding row_width retained_head
 returns c =
-    c.copy.ensures ∙ starts-copied (entry c.before.before.before).args.kinds.now (entry c.before.before.before).args.retained.now (entry c.before.before.before).args.start.now (held c.before.before.before) (calm c.before.before.before) (long (entry c.before.before.before)) (room (entry c.before.before.before))
+    c.copy.ensures ∙ starts-copied c.args.kinds.now c.args.retained.now c.args.start.now (held c.before.before.before) (calm c.before.before.before) (long (entry c.before.before.before)) (room (entry c.before.before.before))
 
 pub write_starts_spec : {M : Type 1} → statement M
 unfolding row_width object_limit retained_head retained_length start_length

@@ -41,22 +41,19 @@ words c = c.before.before.before
 abbrev turn : tie.After-read_update invariant-loop decreases-loop → tie.In-loop-block invariant-loop decreases-loop
 turn c = c.before.before
 
-abbrev entry : tie.In-loop-block invariant-loop decreases-loop → tie.Start invariant-loop decreases-loop
-entry c = c.before.before.before
-
 -- the row of this block fits the table
 room : (c : tie.In-loop-block invariant-loop decreases-loop) →
-    place (entry c).args.column.objects c.loop-block.block (entry c).args.column.object + row_width ≤ (entry c).args.column.blocks * (entry c).args.column.objects * row_width
-room c = within _ _ _ _ c.loop-block-test.true (entry c).requires.0
+    place c.args.column.objects c.loop-block.block c.args.column.object + row_width ≤ c.args.column.blocks * c.args.column.objects * row_width
+room c = within _ _ _ _ c.loop-block-test.true c.requires.0
 
 -- the kind is handed on as its bits
-kind : (c : tie.After-struct_told-1 invariant-loop decreases-loop) → to_z w16 (of_z w16 (entry c.before).args.column.kind) ≡ (entry c.before).args.column.kind
-kind c = back {z = (entry c.before).args.column.kind} c.struct_told-1.given.0.1
+kind : (c : tie.After-struct_told-1 invariant-loop decreases-loop) → to_z w16 (of_z w16 c.args.column.kind) ≡ c.args.column.kind
+kind c = back {z = c.args.column.kind} c.struct_told-1.given.0.1
 
 -- what the words do
 row : (c : tie.After-apply-row invariant-loop decreases-loop) →
     let l = turn (words c).before in
-    row_said c.apply-row.result ≡ updated (kind_of (entry l).args.column.kind) (gain_before (entry l).args.column.objects l.loop-block.block (entry l).args.column.object l.loop-block.blocks) (update_said (words c).in-Words.words) (row_said l.loop-block.row)
+    row_said c.apply-row.result ≡ updated (kind_of c.args.column.kind) (gain_before c.args.column.objects l.loop-block.block c.args.column.object l.loop-block.blocks) (update_said (words c).in-Words.words) (row_said l.loop-block.row)
 row c =
     rw (kind (words c).before.before, back {z = c.gain_before-gain.result} c.gain_before-gain.type_inv ∙ c.gain_before-gain.ensures) at c.apply-row.ensures
 
@@ -66,7 +63,7 @@ returns c =
     block_read _ _ _ _ _ _ _ _ _ l.loop-block.invariant.1 l.loop-block-test.true c.read_update.ensures (ap kind_of (kind c.before.before)) c.in-Refused.is
 
 row-place-requires : tie.Need-row_place-requires invariant-loop decreases-loop
-row-place-requires c κs = let l = turn (words c.before).before in omega (arith, room l, (entry l).well_formed)
+row-place-requires c κs = let l = turn (words c.before).before in omega (arith, room l, c.well_formed)
 
 put-row-requires : tie.Need-put_row-requires invariant-loop decreases-loop
 put-row-requires c κs =
@@ -76,7 +73,7 @@ put-row-requires c κs =
 add-block : tie.Need-overflow_step-block invariant-loop decreases-loop
 add-block c =
     let l = turn (words c.before.before.before.before).before in
-    omega (arith, l.loop-block-test.true, (entry l).well_formed)
+    omega (arith, l.loop-block-test.true, c.well_formed)
 
 loop-again : tie.Need-loop-block-preserved invariant-loop decreases-loop
 loop-again c =

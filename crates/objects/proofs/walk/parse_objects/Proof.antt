@@ -29,17 +29,14 @@ decreases-loop payload limit kinds m start blocks₀ place₀ object₀ end bloc
 abbrev turn : tie.After-parse_object invariant-loop decreases-loop → tie.In-loop-object invariant-loop decreases-loop
 turn c = c.before.before.before.before
 
-abbrev entry : tie.In-loop-object invariant-loop decreases-loop → tie.Start invariant-loop decreases-loop
-entry c = c.before.before.before
-
 -- what the call read is the next object
 object-said : (c : tie.After-parse_object invariant-loop decreases-loop) →
-    let n = length (entry (turn c)).args.kinds.now in
-    Fills ((entry (turn c)).args.block_count * n * row_width) (column_from n (turn c).loop-object.object (kind_of (get_or (entry (turn c)).args.kinds.now (turn c).loop-object.object (pos 0))) (entry (turn c)).args.block_count 0 (row_at (entry (turn c)).args.start.now ((turn c).loop-object.object * row_width)) (turn c).loop-object.blocks (entry (turn c)).args.payload.now (entry (turn c)).args.limit.0 (turn c).loop-object.place.0) (turn c).loop-object.blocks c.parse_object.result c.parse_object.new.blocks
+    let n = length c.args.kinds.now in
+    Fills (c.args.block_count * n * row_width) (column_from n (turn c).loop-object.object (kind_of (get_or c.args.kinds.now (turn c).loop-object.object (pos 0))) c.args.block_count 0 (row_at c.args.start.now ((turn c).loop-object.object * row_width)) (turn c).loop-object.blocks c.args.payload.now c.args.limit.0 (turn c).loop-object.place.0) (turn c).loop-object.blocks c.parse_object.result c.parse_object.new.blocks
 unfolding row_width
 object-said c =
     let l = turn c in
-    rw (← c.row_at-first.ensures, ← back {z = get_or (entry l).args.kinds.now l.loop-object.object (pos 0)} c.kind-1.given) c.parse_object.ensures
+    rw (← c.row_at-first.ensures, ← back {z = get_or c.args.kinds.now l.loop-object.object (pos 0)} c.kind-1.given) c.parse_object.ensures
 
 returns : tie.Need-returns-in-Refused invariant-loop decreases-loop
 returns c =

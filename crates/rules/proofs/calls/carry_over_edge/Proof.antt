@@ -84,16 +84,16 @@ passed c =
     let r = roomy c.before.before.before in
     carry-2 _ _ _ _ _ _ (counted c.before.before.before.before.before) r.frame r.carried (formed c.before ∙ not-false _ c.if-not-carried_form.false-raw) _ r.blocks
 
-in-form : (c : tie.Else-not-carried_form) → carried_form (whole (going_in (entry c).args.state.now)) (entry c).args.carried.now rule2 ≡ true
-in-form c = whole-form (going_in (entry c).args.state.now) (entry c).args.carried.now ∙ formed c.before ∙ not-false _ c.if-not-carried_form.false-raw
+in-form : (c : tie.Else-not-carried_form) → carried_form (whole (going_in c.args.state.now)) c.args.carried.now rule2 ≡ true
+in-form c = whole-form (going_in c.args.state.now) c.args.carried.now ∙ formed c.before ∙ not-false _ c.if-not-carried_form.false-raw
 
 -- the three numbers of what is carried
 numbers : (c : tie.Else-not-carried_form) → going_said c.going_in-going.result ≡ going_of (old (entry c))
-numbers c = c.going_in-going.ensures ∙ sym (rows-many (going_in (entry c).args.state.now) (entry c).args.carried.now)
+numbers c = c.going_in-going.ensures ∙ sym (rows-many (going_in c.args.state.now) c.args.carried.now)
 
 left : (c : tie.Else-not-carried_form) → c.going_in-going.result.elapsed ≤ c.going_in-going.result.duration
 left c =
-    subst (λ (x : Going). x.elapsed ≤ x.duration) (sym c.going_in-going.ensures) (running (going_in (entry c).args.state.now) (form-numbers _ _ (in-form c))).left
+    subst (λ (x : Going). x.elapsed ≤ x.duration) (sym c.going_in-going.ensures) (running (going_in c.args.state.now) (form-numbers _ _ (in-form c))).left
 
 number : (c : tie.After-test_over_edge-number) → let s = entry c.before.before in c.test_over_edge-number.result ≡ timing_by rule2 (remains (old s)) (blocks_of s)
 number c =
@@ -110,10 +110,10 @@ returns-4 c =
 timed : (c : tie.Else-number-ne-ACCEPTED) → let s = entry c.before.before.before in timing_by rule2 (remains (old s)) (blocks_of s) ≡ accepted
 timed c = sym (number c.before) ∙ c.if-number-ne-ACCEPTED.false
 
-timings-room : (c : tie.Else-not-carried_form) → 2 * (entry c).args.blocks ≤ length (entry c).args.timings.now
-timings-room c = (long (entry c).args.timings.now (entry c).args.blocks (entry c).args.start.now (roomy c.before.before.before).frame).0
+timings-room : (c : tie.Else-not-carried_form) → 2 * c.args.blocks ≤ length c.args.timings.now
+timings-room c = (long c.args.timings.now c.args.blocks c.args.start.now (roomy c.before.before.before).frame).0
 
-limits : (c : tie.Else-not-carried_form) → ((entry c).args.blocks ≤ block_limit) × ((entry c).args.objects ≤ object_limit)
+limits : (c : tie.Else-not-carried_form) → (c.args.blocks ≤ block_limit) × (c.args.objects ≤ object_limit)
 limits c = few _ _ (counted c.before.before.before.before.before)
 
 next : (c : tie.After-carried_on-next) → let s = entry c.before.before.before.before in going_said c.carried_on-next.result ≡ going_of (carried_by rule2 (old s) (before s) (blocks_of s))
@@ -162,7 +162,7 @@ tables : (c : tie.Then-blocks-next) → let s = entry c.before.before.before.bef
     Tables s.args.start.now s.args.block_rows.now s.args.blocks s.args.objects s.args.carried.now
 tables c =
     let r = roomy c.before.before.before.before.before.before.before.before.before.before.before in
-    record { starts = (long (entry c.before.before.before.before.before.before.before.before).args.timings.now (entry c.before.before.before.before.before.before.before.before).args.blocks (entry c.before.before.before.before.before.before.before.before).args.start.now r.frame).1; in_blocks = leb-true _ _ r.blocks; room = leb-true _ _ r.carried; short = (limits c.before.before.before.before.before.before.before.before).0; few = (limits c.before.before.before.before.before.before.before.before).1 }
+    record { starts = (long c.args.timings.now c.args.blocks c.args.start.now r.frame).1; in_blocks = leb-true _ _ r.blocks; room = leb-true _ _ r.carried; short = (limits c.before.before.before.before.before.before.before.before).0; few = (limits c.before.before.before.before.before.before.before.before).1 }
 
 pub carry_over_edge_spec : {M : Type 1} → statement M
 carry_over_edge_spec =

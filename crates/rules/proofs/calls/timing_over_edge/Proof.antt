@@ -54,19 +54,16 @@ passed c =
     timing-2 _ _ _ _ _ _ (counted c.before.before.before.before.before) (roomy c.before.before.before).0 (roomy c.before.before.before).1 (formed c.before ∙ not-false _ c.if-not-carried_form.false-raw)
 
 -- what is taken up
-abbrev entry : tie.After-taken_up-taken → tie.Start
-entry c = c.before.before.before.before.before.before.before.before.before
-
-taken : (c : tie.After-taken_up-taken) → going_said c.taken_up-taken.result ≡ going_of (taken_up rule2 (carried_of (going_in (entry c).args.state.now) (entry c).args.carried.now) (rows_of (entry c).args.objects (entry c).args.start.now))
+taken : (c : tie.After-taken_up-taken) → going_said c.taken_up-taken.result ≡ going_of (taken_up rule2 (carried_of (going_in c.args.state.now) c.args.carried.now) (rows_of c.args.objects c.args.start.now))
 taken c =
     c.taken_up-taken.ensures
-    ∙ ap (λ (x : Going). going_of (taken_up rule2 (carried_of x (entry c).args.carried.now) (rows_of (entry c).args.objects (entry c).args.start.now))) c.going_in-going.ensures
-    ∙ ap (λ (x : Carried). going_of (taken_up rule2 x (rows_of (entry c).args.objects (entry c).args.start.now))) (whole-carried (going_in (entry c).args.state.now) (entry c).args.carried.now)
+    ∙ ap (λ (x : Going). going_of (taken_up rule2 (carried_of x c.args.carried.now) (rows_of c.args.objects c.args.start.now))) c.going_in-going.ensures
+    ∙ ap (λ (x : Carried). going_of (taken_up rule2 x (rows_of c.args.objects c.args.start.now))) (whole-carried (going_in c.args.state.now) c.args.carried.now)
 
 -- the number is that of the test of what remains
-number : (c : tie.After-test_over_edge-number) → c.test_over_edge-number.result ≡ timing_by rule2 (remains (taken_up rule2 (carried_of (going_in (entry c.before.before).args.state.now) (entry c.before.before).args.carried.now) (rows_of (entry c.before.before).args.objects (entry c.before.before).args.start.now))) (timings_of (entry c.before.before).args.blocks (entry c.before.before).args.timings.now)
+number : (c : tie.After-test_over_edge-number) → c.test_over_edge-number.result ≡ timing_by rule2 (remains (taken_up rule2 (carried_of (going_in c.args.state.now) c.args.carried.now) (rows_of c.args.objects c.args.start.now))) (timings_of c.args.blocks c.args.timings.now)
 number c =
-    c.test_over_edge-number.ensures ∙ ap (λ (x : Going). timing_by rule2 (x.duration - x.elapsed) (timings_of (entry c.before.before).args.blocks (entry c.before.before).args.timings.now)) (taken c.before.before)
+    c.test_over_edge-number.ensures ∙ ap (λ (x : Going). timing_by rule2 (x.duration - x.elapsed) (timings_of c.args.blocks c.args.timings.now)) (taken c.before.before)
 
 returns-4 : tie.Need-returns-then-number-ne-ACCEPTED
 returns-4 c =
@@ -83,9 +80,9 @@ returns-5 c =
 -- what remains is a number
 left : (c : tie.After-taken_up-taken) → c.taken_up-taken.result.elapsed ≤ c.taken_up-taken.result.duration
 left c =
-    let form : carried_form (whole (going_in (entry c).args.state.now)) (entry c).args.carried.now rule2 ≡ true = whole-form (going_in (entry c).args.state.now) (entry c).args.carried.now ∙ formed c.before.before ∙ not-false _ c.if-not-carried_form.false-raw in
+    let form : carried_form (whole (going_in c.args.state.now)) c.args.carried.now rule2 ≡ true = whole-form (going_in c.args.state.now) c.args.carried.now ∙ formed c.before.before ∙ not-false _ c.if-not-carried_form.false-raw in
     subst (λ (x : Going). x.elapsed ≤ x.duration) (sym (taken c))
-    (taken-running (going_in (entry c).args.state.now) (entry c).args.carried.now (rows_of (entry c).args.objects (entry c).args.start.now) (running (going_in (entry c).args.state.now) (form-numbers _ _ form)))
+    (taken-running (going_in c.args.state.now) c.args.carried.now (rows_of c.args.objects c.args.start.now) (running (going_in c.args.state.now) (form-numbers _ _ form)))
 
 room : (c : tie.Else-not-carried_form) → (start_length ≤ length c.args.carried.now) × ((c.args.objects ≤ object_limit) × (start_length ≤ length c.args.start.now))
 room c =

@@ -1,31 +1,24 @@
 -- How many kinds a reading can give.
-use Prim.Native.Nat.{ℕ, zero, suc, ◌+◌, ◌*◌, ◌/◌, ◌≤◌}
-use mathlib.Core.Path.{◌≡◌}
-use mathlib.Core.Bool.{Bool, cond}
-use mathlib.Core.List.{List, [], ◌∷◌}
-use native.Mathlib.Omega.{arith}
-use lib.Dec.{leb}
-use lib.IntN.{ℤ}
-use lib.ListN.{length, get_or, length-append, length-replicate}
+use Rattle.std.proofs.Common.{ℕ, zero, suc, ◌+◌, ◌*◌, ◌/◌, ◌≤◌, leb, Bool, true, false, cond, List, [], ◌∷◌, length, get_or, arith, length-append}
+use Rattle.std.proofs.lemmas.List.{length-replicate}
 use Rattle.bits.specs.Bits.{is_set}
 use Rattle.bits.specs.Parsed.{Parser, ◌>>=◌, ◌>>◌, map_p, pure, times}
 use Rattle.bits.specs.Reads.{flag}
-use Rattle.bits.specs.declared.BitPlace.{BitPlace}
-use Rattle.bits.specs.declared.Number.{Number}
-use Rattle.bits.specs.declared.Number.TheVariants.{Value}
 use Rattle.bits.proofs.Always.{Always, bind, after, next, mapped, mapped-such, choose, given, required}
 use Rattle.bits.proofs.Fields.{read-lt}
+use Rattle.bits.proofs.Laws.{extended_lt}
 use Rattle.standard.specs.Contexts as context
-use Rattle.standard.specs.Tree.{Kind, isf}
-use Rattle.standard.specs.Assignment.{chosen, standard_beds, nonstandard_beds, one_bed, joined, beds, isf_counts, isfs}
-use Rattle.assignment.specs.Kinds.{Table, onto, said_table}
+use Rattle.standard.specs.Tree.{Kind, isf, dynamic}
+use Rattle.standard.specs.Assignment.{chosen, standard_beds, nonstandard_beds, one_bed, joined, beds, isf_counts, isfs, dynamics}
 use Rattle.assignment.specs.Parts.{bed_count}
-use Rattle.assignment.proofs.Filling.{cond-length}
 use Rattle.assignment.proofs.Stages.{counted-beds}
-use Rattle.assignment.proofs.Assigning.{read-kinds, read_count}
 
 abbrev pub AtMost : ℕ → List Kind → Type 0
 AtMost n ks = length ks ≤ n
+
+cond-length : (b : Bool) (l : List Kind) → length (cond b l []) ≤ length l
+cond-length true l = omega arith
+cond-length false l = omega arith
 
 chosen-le : (gs : List (List Kind)) (v : ℕ) → length (chosen gs v) ≤ length (joined gs)
 unfolding chosen joined
@@ -64,7 +57,7 @@ entry-le [] i = omega arith
 entry-le (x ∷ l) zero = omega arith
 entry-le (x ∷ l) (suc i) = omega (arith, entry-le l i)
 
-pub isf-count-le : (i : ℕ) → get_or isf_counts i 0 ≤ 81
+isf-count-le : (i : ℕ) → get_or isf_counts i 0 ≤ 81
 unfolding isf_counts total
 isf-count-le i = entry-le isf_counts i
 
@@ -74,11 +67,10 @@ isfs-le =
     after _ _ λ at. after _ _ λ format. required (leb format 5) _ λ h.
     given _ (omega (arith, isf-count-le format, length-replicate (get_or isf_counts format 0) isf))
 
+pub dynamics-le : Always (AtMost 191) dynamics
+unfolding dynamics
+dynamics-le = mapped-such _ (extended_lt _ _ _ _ _) λ v h. omega (arith, length-replicate (v + 1) dynamic)
+
+-- a part that may be absent
 pub if-present : (b : Bool) (n : ℕ) {m : Parser (List Kind)} → Always (AtMost n) m → Always (AtMost n) (cond b m (pure []))
 if-present b n h = choose b h (given [] (omega arith))
-
-pub grown : (t : Table) (n : ℕ) {m : Parser (List Kind)} → Always (AtMost n) m → (s : List ℕ) (e p : ℕ) {r : Number} (l : List ℤ) {k : ℕ} {q : BitPlace} → said_table r l ≡ onto t (m s e p) → r ≡ Value k q → k ≤ t.count + n
-grown t n {m} h s e p l f g =
-    let a = read-kinds t (m s e p) (rw g at f) in
-    let b = rw a.gives at (h.ok s e p) in
-    omega (arith, read_count t a)

@@ -1,26 +1,10 @@
--- The laws that a caller cites: which kinds were read.
-use Prim.Native.Nat.{ℕ}
-use mathlib.Core.Path.{◌≡◌}
-use mathlib.Core.List.{List, map}
-use lib.IntN.{ℤ}
-use lib.ListN.{length, take}
-use Rattle.bits.specs.Parsed.{Refusal, Parsed, got, refused}
-use Rattle.bits.proofs.ParsedLaws.{made_got, made-refused}
-use Rattle.standard.specs.Tree.{Kind, kind_number}
-use Rattle.assignment.specs.Kinds.{Assigned}
+-- The laws that a caller cites: the object count is one to the limit.
+use Rattle.std.proofs.Common.{◌+◌, ◌≤◌, ◌<◌, leb, arith}
+use borrow.Author.Tests.{leb-true}
+use Rattle.bits.proofs.Always.{Always, after, required, given}
+use Rattle.standard.specs.Numbers.{object_limit}
+use Rattle.standard.specs.Assignment.{object_count}
 
--- the kinds of a payload that was not refused
-pub record Listed (m : Parsed (List Kind)) (n q : ℕ) (codes : List ℤ) : Type 0 where
-  pub kinds : List Kind
-  pub gives : m ≡ got kinds q
-  pub count : length kinds ≡ n
-  pub begins : take n codes ≡ map kind_number kinds
-
-module _ {m : Parsed (List Kind)} {n : ℕ} {before after : List ℤ} where
-  pub listed : {q : ℕ} → Assigned m n (got tt q) before after → Listed m n q after
-  listed {q} h =
-      let k = made_got _ m h.answered in
-      record { kinds = k.value; gives = k.gives; count = h.count _ q k.gives; begins = h.codes _ q k.gives }
-
-  pub none-listed : {r : Refusal} → Assigned m n (refused r) before after → m ≡ refused r
-  none-listed h = made-refused _ m h.answered
+pub object_count-is : Always (λ n. (0 < n) × (n ≤ object_limit)) object_count
+unfolding object_count
+object_count-is = after _ _ λ at. after _ _ λ v. required (leb (v + 1) object_limit) _ λ h. given (v + 1) (omega arith, leb-true _ _ h)

@@ -1,6 +1,6 @@
-pub mod Laws
 pub mod Filling
-pub mod Stages
 pub mod Chosen
-pub mod Assigning
+pub mod Adding
+pub mod Stages
 pub mod Growth
+pub mod Laws

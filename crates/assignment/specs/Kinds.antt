@@ -1,36 +1,41 @@
--- The table of kinds as it fills: kinds are written by their numbers, and past the table's end they are counted alone.
-use Rattle.std.specs.Prelude.{ℕ, ◌+◌, ◌≡◌, List, [], ◌∷◌, map, ℤ, length, take, set}
-use Rattle.bits.specs.Parsed.{Parsed, got, map_parsed}
-use Rattle.bits.specs.Say.{said}
-use Rattle.bits.specs.declared.Number.{Number}
-use Rattle.standard.specs.Tree.{Kind, kind_number}
+-- The table of kinds as it fills: past the table's end kinds are counted alone.
+use Rattle.std.specs.Prelude.{ℕ, ◌+◌, ◌≡◌, List, [], ◌∷◌, map, set, Result}
+use Rattle.bits.specs.Parsed.{Parser, map_p}
+use Rattle.bits.specs.Say.{ReadsAs}
+use Rattle.bits.specs.declared.cursor.BitCursor.{BitCursor}
+use Rattle.bits.specs.declared.refusals.Refusal.{Refusal}
+use Rattle.rows.specs.Kinds.{kind_said}
+use Rattle.standard.specs.Tree.{Kind}
+use Rattle.assignment.specs.declared.kinds.Kinds.{Kinds}
 
 pub record Table : Type 0 where
   pub count : ℕ
-  pub codes : List ℤ
+  pub kinds : List Kind
 
-abbrev pub holding : ℕ → List ℤ → Table
-holding n l = record { count = n; codes = l }
+abbrev pub holding : ℕ → List Kind → Table
+holding n l = record { count = n; kinds = l }
 
 -- `set` past the end changes nothing
-abbrev pub push : ℤ → Table → Table
-push code t = holding (t.count + 1) (set t.codes t.count code)
+abbrev pub push : Kind → Table → Table
+push k t = holding (t.count + 1) (set t.kinds t.count k)
 
-unfoldable pub extend : List ℤ → Table → Table
+unfoldable pub extend : List Kind → Table → Table
 extend [] t = t
-extend (code ∷ codes) t = extend codes (push code t)
+extend (k ∷ ks) t = extend ks (push k t)
 
--- the kinds that a reading gives, after those of a table
-unfoldable pub onto : Table → Parsed (List Kind) → Parsed Table
-onto t m = map_parsed (λ ks. extend (map kind_number ks) t) m
+-- a reading of kinds, which come after those of a table
+abbrev pub onto : Table → Parser (List Kind) → Parser Table
+onto t m = map_p (λ ks. extend ks t) m
 
--- what an answer says, with the codes that its call left
-abbrev pub said_table : Number → List ℤ → Parsed Table
-said_table r codes = map_parsed (λ n. holding n codes) (said r)
+abbrev pub held : Kinds → Table
+held k = holding k.count (map kind_said k.table.now)
 
--- what a call answers and leaves, of a reading m that gives n kinds
-pub record Assigned (m : Parsed (List Kind)) (n : ℕ) (answer : Parsed (Unit {0})) (before after : List ℤ) : Type 0 where
-  pub answered : answer ≡ map_parsed (λ ks. tt) m
-  pub long : length after ≡ length before
-  pub count : (ks : List Kind) (q : ℕ) → m ≡ got ks q → length ks ≡ n
-  pub codes : (ks : List Kind) (q : ℕ) → m ≡ got ks q → take n after ≡ map kind_number ks
+-- the kinds ks come after those of k, in the same table
+pub record Filled (ks : List Kind) (k k' : Kinds) : Type 0 where
+  pub holds : held k' ≡ extend ks (held k)
+  pub table : k'.table.ghost_name ≡ k.table.ghost_name
+
+-- the kinds that m gives come after those of k, in the same table
+pub record Adds (m : Parser (List Kind)) (c : BitCursor) (k : Kinds) (r : Result (Unit {0}) Refusal) (c' : BitCursor) (k' : Kinds) : Type 0 where
+  pub reads : ReadsAs (λ u. held k') (onto (held k) m) c r c'
+  pub table : k'.table.ghost_name ≡ k.table.ghost_name

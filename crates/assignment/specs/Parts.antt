@@ -3,21 +3,12 @@ use Rattle.std.specs.Prelude.{ℕ, suc, ◌+◌, cond, ◌||◌, List, [], ◌�
 use Rattle.bits.specs.Parsed.{Parser, ◌>>=◌, map_p, pure}
 use Rattle.bits.specs.Reads.{read, flag}
 use Rattle.standard.specs.Tree.{Kind, lfe, bed}
-use Rattle.standard.specs.Assignment.{chosen, standard_beds, nonstandard_beds}
 use Rattle.standard.specs.Contexts as context
 
 unfoldable pub bed_count : Parser ℕ
 bed_count = do
   multiple ← flag context.multiple-bed-instances-flag
   cond multiple (map_p (λ n. n + 2) (read 3 context.bed-instance-count)) (pure 1)
-
--- a bed that is not an Lfe alone
-unfoldable pub bed_channels : Parser (List Kind)
-bed_channels = do
-  standard ← flag context.standard-bed-assignment-flag
-  cond standard
-      (map_p (chosen standard_beds) (read 10 context.standard-bed-assignment))
-      (map_p (chosen nonstandard_beds) (read 17 context.nonstandard-bed-assignment))
 
 -- The channels of a bed by their widths: bit 0 and one more are Lfe
 

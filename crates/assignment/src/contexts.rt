@@ -1,4 +1,5 @@
 // The context numbers of refusals, named after the strings of oamd.rs.
+// They are numbers and no enum: the reads of `bits` hand a context on, and know no syntax.
 pub const VERSION: u8 = 1;
 
 pub const EXTENDED_VERSION: u8 = 2;

@@ -1,36 +1,34 @@
-// The kinds of the objects, by their numbers in a lent table: those past its end are counted, not stored.
-ghost use Rattle.std.specs.Prelude.{◌≡◌, cond, [], ◌+◌, ◌<◌, ◌^◌, replicate};
-ghost use Rattle.assignment.specs.Kinds.{holding, push, extend};
+// The kinds of the objects as they are read, from the start of a lent table: those past its end are counted, not stored.
+ghost use Rattle.std.specs.Prelude.{◌≡◌, [], ◌∷◌, ◌+◌, ◌<◌, ◌^◌, replicate};
+ghost use Rattle.rows.specs.Kinds.{kind_said};
+ghost use Rattle.assignment.specs.Kinds.{Filled};
 
-pub fn push(kinds: &mut [i16], count: u32, kind: i16) -> u32
-    requires { count + 1 < 2 ^ 32 }
-    ensures { holding result kinds.new ≡ push kind (holding count kinds.old) }
-{
-    let at = count as usize;
-    if at < kinds.len() {
-        kinds[at] = kind;
-    }
-    count + 1
+use rows::row::Kind;
+
+// How many more may come differs from call to call: a clause bounds the count, and no field can.
+#[derive(Drop)]
+pub struct Kinds<'a> {
+    pub table: &'a mut [Kind],
+    pub count: usize,
 }
 
-pub fn extend(kinds: &mut [i16], count: u32, kind: i16, number: u32) -> u32
-    requires { count + number < 2 ^ 32 }
-    ensures { holding result kinds.new ≡ extend (replicate number kind) (holding count kinds.old) }
-{
-    let end = count + number;
-    let mut at = count;
-    while at < end {
-        at = push(kinds, at, kind);
+impl<'a> Kinds<'a> {
+    pub fn push(&mut self, kind: Kind)
+        requires { self.old.count + 1 < 2 ^ 64 }
+        ensures { Filled (kind_said kind ∷ []) self.old self.new }
+    {
+        if self.count < self.table.len() {
+            self.table[self.count] = kind;
+        }
+        self.count += 1;
     }
-    at
-}
 
-pub fn extend_if(kinds: &mut [i16], count: u32, wanted: bool, kind: i16, number: u8) -> u32
-    requires { count + number < 2 ^ 32 }
-    ensures { holding result kinds.new ≡ extend (cond wanted (replicate number kind) []) (holding count kinds.old) }
-{
-    if wanted {
-        return extend(kinds, count, kind, number as u32);
+    pub fn extend(&mut self, kind: Kind, number: usize)
+        requires { self.old.count + number < 2 ^ 64 }
+        ensures { Filled (replicate number (kind_said kind)) self.old self.new }
+    {
+        for _ in 0..number {
+            self.push(kind);
+        }
     }
-    count
 }

@@ -1,17 +1,16 @@
 // From the payload's version to the kinds of its objects.
 #![tactic(auto)]
 
-ghost use Rattle.std.specs.Prelude.{◌≡◌, ◌≤◌, ◌<◌, ◌^◌, length};
-ghost use Rattle.bits.specs.Say.{said, said_passed};
+ghost use Rattle.std.specs.Prelude.{◌≡◌, ◌<◌, map, length};
+ghost use Rattle.bits.specs.Say.{Reads, ReadsAs};
+ghost use Rattle.rows.specs.Kinds.{kind_said};
 ghost use Rattle.standard.specs.Assignment as paper;
-ghost use Rattle.assignment.specs.Kinds.{Assigned};
 
 use crate::contents::parse_contents;
-use crate::kinds::{extend, extend_if};
-use bits::{BitPlace, Flag, Number, Passed, Refusal};
-use cursor::read_extended;
+use crate::kinds::Kinds;
+use bits::{BitCursor, Refusal};
 use rows::numbers::OBJECT_LIMIT;
-use rows::row::{DYNAMIC, LFE};
+use rows::row::Kind;
 
 mod beds;
 mod channels;
@@ -19,101 +18,63 @@ mod contents;
 mod contexts;
 mod kinds;
 
-pub fn read_version(payload: &[u8], limit: BitPlace, at: BitPlace) -> Passed
-    ensures { said_passed result ≡ paper.version payload.now limit.0 at.0 }
+pub fn read_version(bits: &mut BitCursor) -> Result<(), Refusal>
+    ensures { Reads paper.version bits.old result bits.new }
 {
-    match read_extended(
-        payload,
-        limit,
-        at,
-        2,
-        contexts::VERSION,
-        3,
-        contexts::EXTENDED_VERSION,
-    ) {
-        Number::Refused(refusal) => Passed::Refused(refusal),
-        Number::Value(version, next) => {
-            if version != 0 {
-                return Passed::Refused(Refusal::unsupported(contexts::VERSION, at));
-            }
-            Passed::To(next)
-        }
+    let at = bits.position;
+    let version = bits.read_extended(2, contexts::VERSION, 3, contexts::EXTENDED_VERSION)?;
+    if version != 0 {
+        return Err(Refusal::unsupported(contexts::VERSION, at));
     }
+    Ok(())
 }
 
-pub fn read_object_count(payload: &[u8], limit: BitPlace, at: BitPlace) -> Number
-    ensures { said result ≡ paper.object_count payload.now limit.0 at.0 }
+pub fn read_object_count(bits: &mut BitCursor) -> Result<usize, Refusal>
+    ensures { Reads paper.object_count bits.old result bits.new }
 {
-    match read_extended(
-        payload,
-        limit,
-        at,
+    let at = bits.position;
+    let coded = bits.read_extended(
         5,
         contexts::OBJECT_COUNT,
         7,
         contexts::EXTENDED_OBJECT_COUNT,
-    ) {
-        Number::Refused(refusal) => Number::Refused(refusal),
-        Number::Value(coded, next) => {
-            let object_count = coded + 1;
-            if object_count as usize > OBJECT_LIMIT {
-                return Number::Refused(Refusal::limit(contexts::OBJECT_COUNT, at));
-            }
-            Number::Value(object_count, next)
-        }
+    )?;
+    let object_count = coded as usize + 1;
+    if object_count > OBJECT_LIMIT {
+        return Err(Refusal::limit(contexts::OBJECT_COUNT, at));
     }
+    Ok(object_count)
 }
 
-// The numbers of the objects' kinds, from the start of the lent table.
-pub fn parse_program_assignment(
-    payload: &[u8],
-    limit: BitPlace,
-    at: BitPlace,
-    object_count: usize,
-    kinds: &mut [i16],
-) -> Passed
-    requires { (0 < object_count) × ((object_count < 2 ^ 16) × (object_count ≤ length kinds.old)) }
-    ensures { Assigned (paper.assignment object_count payload.now limit.0 at.0) object_count (said_passed result) kinds.old kinds.new }
+// The kind of each object; there are as many as the lent places.
+pub fn parse_program_assignment(bits: &mut BitCursor, kinds: &mut [Kind]) -> Result<(), Refusal>
+    requires { 0 < length kinds.old }
+    ensures { ReadsAs (λ _. map kind_said kinds.new) (paper.assignment (length kinds.old)) bits.old result bits.new }
 {
-    match bits::read_flag(payload, limit, at, contexts::DYNAMIC_ONLY_PROGRAM_FLAG) {
-        Flag::Refused(refusal) => Passed::Refused(refusal),
-        Flag::Is(dynamic_only, next) => {
-            if dynamic_only {
-                return parse_dynamic_only(payload, limit, next, object_count as u32, kinds);
-            }
-            match parse_contents(payload, limit, next, kinds) {
-                Number::Refused(refusal) => Passed::Refused(refusal),
-                Number::Value(count, end) => {
-                    if count as usize != object_count {
-                        return Passed::Refused(Refusal::invalid(
-                            contexts::PROGRAM_ASSIGNMENT_OBJECT_COUNT,
-                            at,
-                        ));
-                    }
-                    Passed::To(end)
-                }
-            }
-        }
+    let at = bits.position;
+    if bits.read_flag(contexts::DYNAMIC_ONLY_PROGRAM_FLAG)? {
+        return parse_dynamic_only(bits, kinds);
     }
+    let mut kinds = Kinds {
+        table: kinds,
+        count: 0,
+    };
+    parse_contents(bits, &mut kinds)?;
+    if kinds.count != kinds.table.len() {
+        return Err(Refusal::invalid(contexts::PROGRAM_ASSIGNMENT_OBJECT_COUNT, at));
+    }
+    Ok(())
 }
 
-// The optional LFE comes first.
-fn parse_dynamic_only(
-    payload: &[u8],
-    limit: BitPlace,
-    at: BitPlace,
-    object_count: u32,
-    kinds: &mut [i16],
-) -> Passed
-    requires { (0 < object_count) × ((object_count < 2 ^ 16) × (object_count ≤ length kinds.old)) }
-    ensures { Assigned (paper.only_dynamic object_count payload.now limit.0 at.0) object_count (said_passed result) kinds.old kinds.new }
+// The optional Lfe comes first.
+fn parse_dynamic_only(bits: &mut BitCursor, kinds: &mut [Kind]) -> Result<(), Refusal>
+    requires { 0 < length kinds.old }
+    ensures { ReadsAs (λ _. map kind_said kinds.new) (paper.only_dynamic (length kinds.old)) bits.old result bits.new }
 {
-    match bits::read_flag(payload, limit, at, contexts::LFE_PRESENT_FLAG) {
-        Flag::Refused(refusal) => Passed::Refused(refusal),
-        Flag::Is(lfe_present, next) => {
-            let first = extend_if(kinds, 0, lfe_present, LFE, 1);
-            extend(kinds, first, DYNAMIC, object_count - first);
-            Passed::To(next)
-        }
+    let lfe_present = bits.read_flag(contexts::LFE_PRESENT_FLAG)?;
+    kinds.fill(Kind::Dynamic);
+    if lfe_present {
+        kinds[0] = Kind::Lfe;
     }
+    Ok(())
 }

@@ -62,7 +62,7 @@ pub small : {n v : ℕ} → Small n v → v < 69904
 small {n} {v} h = omega (arith, largest-le n v, h.most)
 
 module _ {A : Type 0} {P : A → Type 0} where
-  refused_as_lem : (r : Refusal) {m : Parser A} → Always P m → Always P (refused_as r m)
+  pub refused_as_lem : (r : Refusal) {m : Parser A} → Always P m → Always P (refused_as r m)
   unfolding refused_as
   refused_as_lem r {m} h = record { ok = λ s e p. go (m s e p) (h.ok s e p) }
     where

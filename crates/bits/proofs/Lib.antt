@@ -8,6 +8,7 @@ pub mod Makes
 pub mod Padding
 pub mod ParsedLaws
 pub mod ReadCases
+pub mod Reading
 pub mod Signs
 pub mod Tells
 pub mod Growing

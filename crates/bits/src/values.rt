@@ -1,5 +1,5 @@
-// Small functions of numbers: a sign, single bits, bits cut out, the first 1, the lesser of two.
-ghost use Rattle.std.specs.Prelude.{◌≡◌, ◌-◌, ◌/◌, ◌%◌, ◌≤◌, ◌<◌, ◌^◌, min};
+// Small functions of numbers: a sign, single bits, bits cut out, the first 1.
+ghost use Rattle.std.specs.Prelude.{◌≡◌, ◌-◌, ◌/◌, ◌%◌, ◌≤◌, ◌<◌, ◌^◌};
 ghost use Rattle.bits.specs.Bits.{is_set};
 ghost use Rattle.bits.specs.Reads as reads;
 
@@ -24,6 +24,7 @@ pub fn two_to(exponent: usize) -> u32
 }
 
 // Counted from the lowest.
+#[tactic(auto, unfolding(crate::specs::Bits::is_set))]
 pub fn is_set(value: u32, bit: usize) -> bool
     requires { bit < 32 }
     ensures { result ≡ is_set bit value }
@@ -45,10 +46,4 @@ pub fn zeros_before(number: u32, width: usize) -> usize
     ensures { (result < width) × (number / 2 ^ (width - 1 - result) ≡ 1) }
 {
     width - (32 - u32::leading_zeros(number) as usize)
-}
-
-pub fn least(a: usize, b: usize) -> usize
-    ensures { result ≡ min a b }
-{
-    if a < b { a } else { b }
 }

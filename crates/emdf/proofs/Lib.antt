@@ -1,5 +1,6 @@
 -- Laws and the proofs that stand beside the functions.
 pub mod Cuts
+pub mod Reading
 pub mod Turns
 pub mod GroupLaws
 pub mod Nearness
@@ -8,4 +9,5 @@ pub mod ListLaws
 pub mod Bytes
 pub mod Copying
 pub mod Answers
+pub mod Kept
 pub mod Determined

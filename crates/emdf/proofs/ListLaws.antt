@@ -7,7 +7,7 @@ use native.Mathlib.Nat.{min-le_right}
 use native.Mathlib.Omega.{arith}
 use lib.Dec.{eqb}
 use Rattle.bits.specs.Parsed.{Parsed, got, refused, and_then, map_parsed, ◌>>=◌, ◌>>◌, map_p, pure, refuse, require}
-use Rattle.bits.proofs.Always.{Always, Ok}
+use Rattle.bits.proofs.Always.{Always, mapped}
 use Rattle.bits.proofs.ParsedLaws.{then-got, then_map}
 use Rattle.standard.specs.Numbers.{container_limit, no_object, other_version, alone}
 use Rattle.standard.specs.Container.{object_id, pass, variable, extended, passed, config, Header, header, object_among, first_object, opening}
@@ -144,12 +144,8 @@ module _ (s : List ℕ) (e : ℕ) where
       go (got v q) = rw (← (near-is v 0 (omega arith))) (tested (require (eqb v 0) (alone other_version) s e q))
       go (refused r) = refl
 
-pub near-header-small : Always (λ h. h.size ≤ large) (λ s e p. map_parsed near_header (header s e p))
-near-header-small = record { ok = λ s e p. go (header s e p) }
-  where
-    go : (x : Parsed Header) → Ok (λ (h : Header). h.size ≤ large) (map_parsed near_header x)
-    go (got h q) = min-le_right h.size large
-    go (refused r) = tt
+pub near-header-small : Always (λ h. h.size ≤ large) (map_p near_header header)
+near-header-small = mapped near_header header (λ h. min-le_right h.size large)
 
 -- What is found begins within the container
 

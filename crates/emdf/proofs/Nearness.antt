@@ -3,13 +3,12 @@ use Prim.Native.Nat.{ℕ, zero, suc, ◌+◌, ◌-◌, ◌≤◌, ◌<◌, min}
 use mathlib.Core.Path.{◌≡◌, refl, ap, sym, ◌∙◌}
 use mathlib.Core.Bool.{Bool, true, false}
 use mathlib.Core.List.{List}
-use native.Mathlib.Nat.{min-eq_left, min-eq_right, min-le_right, mul-le-mul_left}
+use native.Mathlib.Nat.{min-eq_left, min-eq_right, mul-le-mul_left}
 use native.Mathlib.Omega.{arith}
 use lib.Dec.{leb, eqb}
 use lib.Pow.{pow_pos}
 use borrow.Author.Tests.{leb-true, leb-false, ne_eqb}
-use Rattle.bits.specs.Parsed.{Parsed, got, refused, Parser, and_then, map_parsed}
-use Rattle.bits.proofs.Always.{Always, Ok}
+use Rattle.bits.specs.Parsed.{Parsed, got, refused, and_then, map_parsed}
 use Rattle.bits.proofs.ParsedLaws.{then_map}
 use Rattle.standard.specs.Container.{bits, flag, variable}
 use Rattle.emdf.specs.Say.{large, near}
@@ -94,13 +93,6 @@ near-variable w s e p = rw (first_then w s e p) (then_map (bits w s e p) (rest w
 
 -- What is made of a number
 
-pub near_le : (m : Parser ℕ) → Always (λ n. n ≤ large) (λ s e p. near (m s e p))
-near_le m = record { ok = λ s e p. go (m s e p) }
-  where
-    go : (x : Parsed ℕ) → Ok (λ n. n ≤ large) (near x)
-    go (got n q) = min-le_right n large
-    go (refused r) = tt
-
 pub near-passed : (x : Parsed ℕ) → map_parsed (λ n. tt {0}) x ≡ map_parsed (λ n. tt {0}) (near x)
 near-passed (got n q) = refl
 near-passed (refused r) = refl
@@ -109,7 +101,7 @@ alike-add : (k : ℕ) {v v' : ℕ} → Alike v v' → Alike (k + v) (k + v')
 alike-add k (same e) = same (ap (λ x. k + x) e)
 alike-add k (past h l) = past (omega arith) (omega arith)
 
-pub near-added : (k : ℕ) (x : Parsed ℕ) → near (map_parsed (λ n. k + n) x) ≡ near (map_parsed (λ n. k + n) (near x))
+pub near-added : (k : ℕ) (x : Parsed ℕ) → near (map_parsed (λ n. k + n) x) ≡ map_parsed (λ n. min (k + n) large) (near x)
 near-added k (got n q) = ap (λ (m : ℕ). got m q) (alike (alike-add k (alike-min n)))
 near-added k (refused r) = refl
 

@@ -4,7 +4,7 @@ use mathlib.Core.Bool.{Bool, not}
 use mathlib.Core.List.{List}
 use native.Mathlib.Omega.{arith}
 use lib.Dec.{eqb}
-use Rattle.bits.specs.Parsed.{Parsed, got, refused, Parser, and_then, map_parsed, ◌>>=◌}
+use Rattle.bits.specs.Parsed.{Parsed, got, refused, Parser, and_then, map_parsed, ◌>>=◌, map_p}
 use Rattle.bits.proofs.Groups.{variable-tells}
 use Rattle.bits.proofs.Tells.{About, Tells, Within, within, instead, stays, chosen, along, next, made, required}
 use Rattle.standard.specs.Container.{or_ends_early, pass, variable, extended, passed, if_set, flagged, handling, after_offset, config, Header, header}
@@ -80,7 +80,8 @@ header-forward =
     further _ (extended-forward 4) λ id. next (required (not (eqb id 0)) _) (next config-within (along _ (variable-within 8) λ n. stays _))
 
 -- so does what is kept of it
-pub near-header-forward : Tells Forward (λ s e p. map_parsed near_header (header s e p))
+pub near-header-forward : Tells Forward (map_p near_header header)
+unfolding map_p
 near-header-forward = record { tells = λ s e p. go s e p (header s e p) (header-forward.tells s e p) }
   where
     go : (s : List ℕ) (e p : ℕ) (x : Parsed Header) → Forward s e p x → Forward s e p (map_parsed near_header x)

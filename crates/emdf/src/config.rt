@@ -1,91 +1,55 @@
 // A payload's config, passed over.
-ghost use Rattle.std.specs.Prelude.{◌≡◌, List, ℕ, ◌≤◌};
-ghost use Rattle.bits.specs.Say.{said_passed};
 ghost use Rattle.standard.specs.Container as paper;
+ghost use Rattle.emdf.specs.Say.{ReadsContainer, Skips};
 
 use crate::fields::{read_flag, skip};
 use crate::variable::read_variable_bits;
-use bits::{BitPlace, Flag, Number, Passed};
+use bits::{BitCursor, Fault};
 
-pub fn skip_config(container: &[u8], limit: BitPlace, at: BitPlace) -> Passed
-    ensures { said_passed result ≡ paper.config container.now limit.0 at.0 }
+pub fn skip_config(bits: &mut BitCursor) -> Result<(), Fault>
+    ensures { ReadsContainer paper.config bits.old result bits.new }
 {
-    match read_flag(container, limit, at) {
-        Flag::Refused(refusal) => Passed::Refused(refusal),
-        Flag::Is(offset, next) => match skip_if(limit, next, offset, 12) {
-            Passed::Refused(refusal) => Passed::Refused(refusal),
-            Passed::To(next) => skip_after_offset(container, limit, next, offset),
-        },
+    let offset = read_flag(bits)?;
+    if offset {
+        skip(bits, 12)?;
     }
+    skip_after_offset(bits, offset)
 }
 
-fn skip_after_offset(container: &[u8], limit: BitPlace, at: BitPlace, offset: bool) -> Passed
-    ensures { said_passed result ≡ paper.after_offset offset container.now limit.0 at.0 }
+fn skip_after_offset(bits: &mut BitCursor, offset: bool) -> Result<(), Fault>
+    ensures { ReadsContainer (paper.after_offset offset) bits.old result bits.new }
 {
-    let duration = skip_flagged_variable(container, limit, at, 11);
-    let Passed::To(at) = duration else {
-        return duration;
-    };
-    let group = skip_flagged_variable(container, limit, at, 2);
-    let Passed::To(at) = group else {
-        return group;
-    };
-    let codec = skip_flagged(container, limit, at, 8);
-    let Passed::To(at) = codec else {
-        return codec;
-    };
-    match read_flag(container, limit, at) {
-        Flag::Refused(refusal) => Passed::Refused(refusal),
-        Flag::Is(discard_unknown, next) => {
-            if discard_unknown {
-                return Passed::To(next);
-            }
-            skip_handling(container, limit, next, offset)
-        }
+    // Duration, group and codec data.
+    skip_flagged(bits, |bits| read_variable_bits(bits, 11))?;
+    skip_flagged(bits, |bits| read_variable_bits(bits, 2))?;
+    skip_flagged(bits, |bits| skip(bits, 8))?;
+    let discard_unknown = read_flag(bits)?;
+    if discard_unknown {
+        return Ok(());
     }
+    skip_handling(bits, offset)
 }
 
-fn skip_handling(container: &[u8], limit: BitPlace, at: BitPlace, offset: bool) -> Passed
-    ensures { said_passed result ≡ paper.handling offset container.now limit.0 at.0 }
+fn skip_handling(bits: &mut BitCursor, offset: bool) -> Result<(), Fault>
+    ensures { ReadsContainer (paper.handling offset) bits.old result bits.new }
 {
     if offset {
-        return skip(limit, at, 7);
-    }
-    skip_flagged(container, limit, at, 9)
-}
-
-fn skip_flagged(container: &[u8], limit: BitPlace, at: BitPlace, count: u32) -> Passed
-    ensures { said_passed result ≡ paper.flagged (paper.pass count) container.now limit.0 at.0 }
-{
-    match read_flag(container, limit, at) {
-        Flag::Refused(refusal) => Passed::Refused(refusal),
-        Flag::Is(present, next) => skip_if(limit, next, present, count),
+        skip(bits, 7)
+    } else {
+        skip_flagged(bits, |bits| skip(bits, 9))
     }
 }
 
-fn skip_if(limit: BitPlace, at: BitPlace, present: bool, count: u32) -> Passed
-    ensures { (s : List ℕ) → said_passed result ≡ paper.if_set present (paper.pass count) s limit.0 at.0 }
+// A flag, and what `skip_it` passes over where the flag is set.
+fn skip_flagged<T: Copy, F: FnOnce(&mut BitCursor) -> Result<T, Fault>>(
+    bits: &mut BitCursor,
+    skip_it: F,
+) -> Result<(), Fault>
+    requires { F.IsAlwaysCallable skip_it }
+    ensures { (m : _) → Skips F.FnOnce skip_it m → ReadsContainer (paper.flagged m) bits.old result bits.new }
 {
-    if !present {
-        return Passed::To(at);
+    if read_flag(bits)? {
+        skip_it(bits)?;
     }
-    skip(limit, at, count)
-}
-
-fn skip_flagged_variable(container: &[u8], limit: BitPlace, at: BitPlace, width: usize) -> Passed
-    requires { width ≤ 11 }
-    ensures { said_passed result ≡ paper.flagged (paper.passed (paper.variable width)) container.now limit.0 at.0 }
-{
-    match read_flag(container, limit, at) {
-        Flag::Refused(refusal) => Passed::Refused(refusal),
-        Flag::Is(present, next) => {
-            if !present {
-                return Passed::To(next);
-            }
-            match read_variable_bits(container, limit, next, width) {
-                Number::Refused(refusal) => Passed::Refused(refusal),
-                Number::Value(_, end) => Passed::To(end),
-            }
-        }
-    }
+    Ok(())
 }

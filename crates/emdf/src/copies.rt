@@ -1,41 +1,31 @@
-// Bytes that begin at any bit, copied to the front of a buffer.
+// Bytes that begin at any bit, copied into a buffer.
 ghost use Rattle.std.specs.Prelude.{◌≡◌, ◌+◌, ◌*◌, ◌-◌, ◌/◌, ◌%◌, ◌^◌, ◌≤◌, ◌<◌, length};
-ghost use Rattle.standard.specs.Calls.{over};
 ghost use Rattle.emdf.specs.Say.{bytes_from};
 
-pub fn copy_bytes(container: &[u8], from: usize, buffer: &mut [u8], n: usize)
-    requires { (from + n * 8 ≤ length container.now * 8) × (n ≤ length buffer.old) }
-    ensures { buffer.new ≡ over (bytes_from container.now from n) buffer.old }
+// As many as the buffer takes.
+pub fn copy_bytes(container: &[u8], from: usize, buffer: &mut [u8])
+    requires { from + length buffer.old * 8 ≤ length container.now * 8 }
+    ensures { buffer.new ≡ bytes_from container.now from (length buffer.old) }
 {
     let first = from / 8;
+    let end = first + buffer.len();
     let shift = from % 8;
     if shift == 0 {
-        copy_whole(container, first, buffer, n);
+        buffer.copy_from_slice(&container[first..end]);
     } else {
-        copy_shifted(container, first, shift, buffer, n);
-    }
-}
-
-fn copy_whole(container: &[u8], first: usize, buffer: &mut [u8], n: usize)
-    requires { (first + n ≤ length container.now) × (n ≤ length buffer.old) }
-    ensures { buffer.new ≡ over (bytes_from container.now (first * 8) n) buffer.old }
-{
-    for i in 0..n {
-        let byte = container[first + i];
-        buffer[i] = byte;
+        copy_shifted(&container[first..end + 1], shift, buffer);
     }
 }
 
 // Each byte stands in two neighbours, and the second of them is the first of the next.
-fn copy_shifted(container: &[u8], first: usize, shift: usize, buffer: &mut [u8], n: usize)
-    requires { ((first + n < length container.now) × (n ≤ length buffer.old)) × (shift < 8) }
-    ensures { buffer.new ≡ over (bytes_from container.now (first * 8 + shift) n) buffer.old }
+fn copy_shifted(bytes: &[u8], shift: usize, buffer: &mut [u8])
+    requires { (length bytes.now ≡ length buffer.old + 1) × (shift < 8) }
+    ensures { buffer.new ≡ bytes_from bytes.now shift (length buffer.old) }
 {
-    let mut high = container[first];
-    for i in 0..n {
-        let low = container[first + i + 1];
-        buffer[i] = joined(high, low, shift);
-        high = low;
+    let mut high = bytes[0];
+    for (index, low) in bytes[1..].iter().enumerate() {
+        buffer[index] = joined(high, *low, shift);
+        high = *low;
     }
 }
 
@@ -43,6 +33,6 @@ fn joined(high: u8, low: u8, shift: usize) -> u8
     requires { shift < 8 }
     ensures { result ≡ (high * 256 + low) / 2 ^ (8 - shift) % 256 }
 {
-    let pair = high as u32 * 256 + low as u32;
+    let pair = u16::from_be_bytes([high, low]);
     ((pair >> (8 - shift)) % 256) as u8
 }

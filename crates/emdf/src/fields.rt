@@ -1,48 +1,30 @@
 // The reads of a container: of one that its end cuts, that alone is said.
-ghost use Rattle.std.specs.Prelude.{◌≡◌, List, ℕ, ◌≤◌};
-ghost use Rattle.bits.specs.Say.{refusal, said, said_flag, said_passed};
-ghost use Rattle.standard.specs.Numbers as numbers;
+#![tactic(auto, using(crate::proofs::Reading::ends_early), unfolding(standard::specs::Container::bits, standard::specs::Container::flag, standard::specs::Container::pass))]
+
+ghost use Rattle.std.specs.Prelude.{◌≤◌};
 ghost use Rattle.standard.specs.Container as paper;
+ghost use Rattle.emdf.specs.Say.{ReadsContainer};
 
-use bits::{BitPlace, Flag, Number, Passed, Refusal};
+use bits::{BitCursor, Fault};
 
-const ENDS_EARLY: u8 = 13;
+// A fault is told by its number alone, so no context is.
+const NO_CONTEXT: u8 = 0;
 
-pub fn read(container: &[u8], limit: BitPlace, at: BitPlace, width: usize) -> Number
+pub fn read(bits: &mut BitCursor, width: usize) -> Result<u32, Fault>
     requires { width ≤ 17 }
-    ensures { said result ≡ paper.bits width container.now limit.0 at.0 }
+    ensures { ReadsContainer (paper.bits width) bits.old result bits.new }
 {
-    match bits::read(container, limit, at, width, 0) {
-        Number::Value(value, next) => Number::Value(value, next),
-        Number::Refused(_) => Number::Refused(alone(ENDS_EARLY)),
-    }
+    bits.read(width, NO_CONTEXT).or(Err(Fault::EndsEarly))
 }
 
-pub fn read_flag(container: &[u8], limit: BitPlace, at: BitPlace) -> Flag
-    ensures { said_flag result ≡ paper.flag container.now limit.0 at.0 }
+pub fn read_flag(bits: &mut BitCursor) -> Result<bool, Fault>
+    ensures { ReadsContainer paper.flag bits.old result bits.new }
 {
-    match bits::read_flag(container, limit, at, 0) {
-        Flag::Is(set, next) => Flag::Is(set, next),
-        Flag::Refused(_) => Flag::Refused(alone(ENDS_EARLY)),
-    }
+    bits.read_flag(NO_CONTEXT).or(Err(Fault::EndsEarly))
 }
 
-pub fn skip(limit: BitPlace, at: BitPlace, count: u32) -> Passed
-    ensures { (s : List ℕ) → said_passed result ≡ paper.pass count s limit.0 at.0 }
+pub fn skip(bits: &mut BitCursor, count: u32) -> Result<(), Fault>
+    ensures { ReadsContainer (paper.pass count) bits.old result bits.new }
 {
-    match bits::skip(limit, at, count, 0) {
-        Passed::To(next) => Passed::To(next),
-        Passed::Refused(_) => Passed::Refused(alone(ENDS_EARLY)),
-    }
-}
-
-pub fn alone(number: u8) -> Refusal
-    ensures { refusal result ≡ numbers.alone number }
-{
-    Refusal {
-        number,
-        context: 0,
-        missing: 0,
-        place: BitPlace(0),
-    }
+    bits.skip(count, NO_CONTEXT).or(Err(Fault::EndsEarly))
 }

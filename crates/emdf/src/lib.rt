@@ -2,12 +2,13 @@
 #![tactic(auto)]
 
 ghost use Rattle.standard.specs.Calls as calls;
-ghost use Rattle.emdf.specs.Promises.{Left};
+ghost use Rattle.bits.specs.Faults.{number_of};
+ghost use Rattle.emdf.specs.Promises.{Left, length_of};
 
 use crate::copies::copy_bytes;
 use crate::fields::skip;
 use crate::payloads::find_object;
-use bits::{ByteCount, Number, Passed};
+use bits::{BitCursor, BitPlace, ByteCount, Fault};
 
 mod config;
 mod copies;
@@ -15,42 +16,29 @@ mod fields;
 mod payloads;
 mod variable;
 
-const ACCEPTED: u32 = 0;
-
-const ROOM: u32 = 5;
-
-const SIZE: u32 = 7;
-
 const PAYLOAD_LIMIT: usize = 16384;
 
 const CONTAINER_LIMIT: usize = 65536;
 
-// On a refusal the length is 0 and the buffer stays.
-pub fn take(container: &[u8], buffer: &mut [u8], length: &mut u32) -> u32
-    ensures { Left (calls.emdf_call container.now buffer.old) result length.new buffer.new }
+// The length of the payload, which is then at the front of the buffer. On a refusal the buffer stays.
+pub fn take(container: &[u8], buffer: &mut [u8]) -> Result<u32, Fault>
+    ensures { Left (calls.emdf_call container.now buffer.old) (number_of result) (length_of result) buffer.new }
 {
-    *length = 0;
     if buffer.len() < PAYLOAD_LIMIT {
-        return ROOM;
+        return Err(Fault::Room);
     }
     if container.len() > CONTAINER_LIMIT {
-        return SIZE;
+        return Err(Fault::Size);
     }
     let limit = ByteCount(container.len()).bits();
-    match find_object(container, limit) {
-        Number::Refused(refusal) => refusal.number as u32,
-        Number::Value(size, first) => {
-            if size as usize > PAYLOAD_LIMIT {
-                return SIZE;
-            }
-            match skip(limit, first, size * 8) {
-                Passed::Refused(refusal) => refusal.number as u32,
-                Passed::To(_) => {
-                    copy_bytes(container, first.0, buffer, size as usize);
-                    *length = size;
-                    ACCEPTED
-                }
-            }
-        }
+    let mut bits = BitCursor::new(container, limit, BitPlace(0));
+    let size = find_object(&mut bits)?;
+    let too_large = size as usize > PAYLOAD_LIMIT;
+    if too_large {
+        return Err(Fault::Size);
     }
+    let first = bits.position;
+    skip(&mut bits, size * 8)?;
+    copy_bytes(container, first.0, &mut buffer[..size as usize]);
+    Ok(size)
 }

@@ -1,86 +1,59 @@
 // The list of payloads, up to its first object payload.
-ghost use Rattle.std.specs.Prelude.{◌≡◌, ◌*◌, ◌≤◌};
-ghost use Rattle.bits.specs.Parsed.{map_parsed};
-ghost use Rattle.bits.specs.Say.{said};
+ghost use Rattle.std.specs.Prelude.{◌*◌, ◌≤◌};
+ghost use Rattle.bits.specs.Parsed.{map_p};
+ghost use Rattle.bits.specs.Say.{ReadsBy};
 ghost use Rattle.standard.specs.Numbers.{container_limit};
 ghost use Rattle.standard.specs.Container as paper;
-ghost use Rattle.emdf.specs.Say.{near, near_header, said_header};
+ghost use Rattle.emdf.specs.Say.{ReadsContainer, fault, near_header, nearly, said_header};
 
 use crate::config::skip_config;
-use crate::fields::{alone, skip};
+use crate::fields::skip;
 use crate::variable::{read_extended, read_variable_bits};
-use bits::{BitPlace, Number, Passed, Refusal};
+use bits::{BitCursor, Fault};
 
 const OBJECT_ID: u32 = 11;
 
-const OTHER_VERSION: u8 = 14;
-
-const NO_OBJECT: u8 = 15;
-
-// Of an id and a size, with the place of the payload's first bit.
 #[derive(Clone, Copy)]
-pub enum Header {
-    Of(u32, u32, BitPlace),
-    Refused(Refusal),
+pub struct Header {
+    pub id: u32,
+    pub size: u32,
 }
 
-// The size of the first object payload, and the place of its first bit.
-pub fn find_object(container: &[u8], limit: BitPlace) -> Number
-    requires { limit.0 ≤ container_limit * 8 }
-    ensures { said result ≡ near (paper.opening container.now limit.0 0) }
+// The size of the first object payload. Its first bit is where the cursor then stands.
+pub fn find_object(bits: &mut BitCursor) -> Result<u32, Fault>
+    requires { bits.old.limit.0 ≤ container_limit * 8 }
+    ensures { ReadsContainer (nearly paper.opening) bits.old result bits.new }
 {
-    match read_extended(container, limit, BitPlace(0), 2) {
-        Number::Refused(refusal) => Number::Refused(refusal),
-        Number::Value(version, next) => {
-            if version != 0 {
-                return Number::Refused(alone(OTHER_VERSION));
-            }
-            match read_extended(container, limit, next, 3) {
-                Number::Refused(refusal) => Number::Refused(refusal),
-                Number::Value(_, next) => first_object(container, limit, next),
-            }
-        }
+    let version = read_extended(bits, 2)?;
+    if version != 0 {
+        return Err(Fault::OtherVersion);
     }
+    let _key = read_extended(bits, 3)?;
+    first_object(bits)
 }
 
 // A size past the container is a cut, however large.
-fn first_object(container: &[u8], limit: BitPlace, at: BitPlace) -> Number
-    requires { limit.0 ≤ container_limit * 8 }
-    ensures { said result ≡ near (paper.first_object container.now limit.0 at.0) }
+fn first_object(bits: &mut BitCursor) -> Result<u32, Fault>
+    requires { bits.old.limit.0 ≤ container_limit * 8 }
+    ensures { ReadsContainer (nearly paper.first_object) bits.old result bits.new }
 {
-    let mut place = at;
     loop {
-        match read_header(container, limit, place) {
-            Header::Refused(refusal) => return Number::Refused(refusal),
-            Header::Of(id, size, first) => {
-                if id == OBJECT_ID {
-                    return Number::Value(size, first);
-                }
-                match skip(limit, first, size * 8) {
-                    Passed::Refused(refusal) => return Number::Refused(refusal),
-                    Passed::To(next) => place = next,
-                }
-            }
+        let header = read_header(bits)?;
+        if header.id == OBJECT_ID {
+            return Ok(header.size);
         }
+        skip(bits, header.size * 8)?;
     }
 }
 
-fn read_header(container: &[u8], limit: BitPlace, at: BitPlace) -> Header
-    ensures { said_header result ≡ map_parsed near_header (paper.header container.now limit.0 at.0) }
+fn read_header(bits: &mut BitCursor) -> Result<Header, Fault>
+    ensures { ReadsBy said_header fault (map_p near_header paper.header) bits.old result bits.new }
 {
-    match read_extended(container, limit, at, 5) {
-        Number::Refused(refusal) => Header::Refused(refusal),
-        Number::Value(id, next) => {
-            if id == 0 {
-                return Header::Refused(alone(NO_OBJECT));
-            }
-            match skip_config(container, limit, next) {
-                Passed::Refused(refusal) => Header::Refused(refusal),
-                Passed::To(next) => match read_variable_bits(container, limit, next, 8) {
-                    Number::Refused(refusal) => Header::Refused(refusal),
-                    Number::Value(size, first) => Header::Of(id, size, first),
-                },
-            }
-        }
+    let id = read_extended(bits, 5)?;
+    if id == 0 {
+        return Err(Fault::NoObject);
     }
+    skip_config(bits)?;
+    let size = read_variable_bits(bits, 8)?;
+    Ok(Header { id, size })
 }

@@ -1,5 +1,5 @@
 -- Laws that stand on several functions.
-pub mod Waiting
-pub mod Joining
+pub mod Arriving
 pub mod Stepping
 pub mod Stages
+pub mod Whole

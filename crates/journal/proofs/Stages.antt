@@ -1,50 +1,41 @@
--- Turn after turn: what went to write and what waits is the text of a run over all that has arrived, and at the end the journal's.
-use Rattle.std.proofs.Common.{◌≡◌, ℕ, ◌^◌, ◌<◌, Bool, true, false, ◌||◌, ◌⊎◌, List, [], ◌++◌, length, take, ℤ, sym, refl, ap, ◌∙◌, inl, inr, append_assoc, arith, length-append}
-use Rattle.standard.specs.Journal.{with_retained, fresh_tables, printed}
-use Rattle.journals.specs.Buffers.{part}
-use Rattle.journals.specs.Texts.{ending_text, fault_line}
+-- Turn after turn: what went to write and what waits is the text of a run over all that has arrived.
+use Rattle.std.proofs.Common.{◌≡◌, ℕ, ◌+◌, Bool, true, false, List, ◌++◌, Ok, refl, sym, ap, ◌∙◌, append_assoc, arith}
 use Rattle.journals.specs.Runs as runs
-use Rattle.journals.specs.Runs.{Standing, at_start, left_over, Ran}
-use Rattle.journals.proofs.Running.{closing, all_but_last, prints-journal}
+use Rattle.journals.specs.Runs.{Standing, Ran}
 use Rattle.journal.specs.Waits.{Emits}
-use Rattle.journal.specs.Steps.{standing, Turned, goes, ends, faults, fails}
-use Rattle.journal.specs.declared.place.Place.{Place}
+use Rattle.journal.specs.Steps.{Turned, goes, ends, faults, fails, steps, Played, over, faulted}
 
--- s has arrived, and `handed` went to write
-pub data Stage (turns : ℕ) (r : Place) (p : Standing) (waits : List ℕ) : Type 0 where
-  on : {s text : List ℕ} (handed : List ℕ) → Ran s text p → handed ++ waits ≡ text → Stage turns r p waits
-  over : (handed s : List ℕ) → turns ≡ 0 → (length s < 2 ^ 64 → handed ++ waits ≡ printed s) → Stage turns r p waits
-  faulted : (handed s text : List ℕ) (records offset : ℕ) (unused : List ℕ) → turns ≡ 0 → handed ++ waits ≡ text ++ fault_line offset
-      → (length s < 2 ^ 64 → printed s ≡ text ++ ending_text records (left_over offset unused)) → Stage turns r p waits
-  failed : turns ≡ 0 → r.failed ≡ true → Stage turns r p waits
+-- after n turns: what has arrived, and what of the text went to write
+pub record Running (n : ℕ) (p : Standing) (waits : List ℕ) : Type 0 where
+  pub arrived : List ℕ
+  pub text : List ℕ
+  pub handed : List ℕ
+  pub ran : Ran arrived text p
+  pub turns : steps ran ≡ n
+  pub same : handed ++ waits ≡ text
 
-more-handed : {waited text waits : List ℕ} (w : Emits waited text waits) (handed : List ℕ) → (handed ++ w.handed) ++ waits ≡ (handed ++ waited) ++ text
-more-handed {waited} {text} {waits} w handed =
-    append_assoc handed w.handed waits ∙ ap (λ (t : List ℕ). handed ++ t) w.same ∙ sym (append_assoc handed waited text)
+more-said : {n : ℕ} {p : Standing} {waited text waits : List ℕ} (s : Running n p waited) (w : Emits waited text waits) → (s.handed ++ w.handed) ++ waits ≡ s.text ++ text
+more-said {waited} {text} {waits} s w =
+    append_assoc s.handed w.handed waits ∙ ap (λ (t : List ℕ). s.handed ++ t) w.same ∙ sym (append_assoc s.handed waited text) ∙ ap (λ (t : List ℕ). t ++ text) s.same
 
--- with fresh tables, and nothing read or written
-pub first : {turns : ℕ} {r : Place} {retained : List ℤ} (arrived lines : List ℕ) → r ≡ record { from = 0; filled = 0; records = 0; offset = 0; waiting = 0; ended = false; failed = false }
-    → retained ≡ fresh_tables.retained → Stage turns r (standing r arrived (with_retained fresh_tables retained)) (take r.waiting lines)
-unfolding at_start part
-first arrived lines e f = rw (e, f) (on [] runs.begins refl)
+module _ {n : ℕ} {p q : Standing} {waited waits : List ℕ} (s : Running n p waited) where
+  -- with nothing more waiting than before
+  pub turned-on : {b : Bool} → Turned p waited (Ok b) q waits → b ≡ true → Running (n + 1) q waits
+  turned-on (goes {part} {text} f g w) e =
+      record {
+        arrived = s.arrived ++ part;
+        text = s.text ++ text;
+        handed = s.handed ++ w.handed;
+        ran = runs.goes s.ran g;
+        turns = omega (arith, s.turns);
+        same = more-said s w;
+      }
+  turned-on (ends f a c w) e = let z : ⊥ = cc in absurd z
+  turned-on (faults f a c w) e = let z : ⊥ = cc in absurd z
+  turned-on (fails f) e = let z : ⊥ = cc in absurd z
 
--- a turn, after which n are left
-pub next : {turns : ℕ} {r r' : Place} {p q : Standing} {waited waits : List ℕ} → Stage turns r p waited → 0 < turns → Turned p waited r' q waits
-    → (n : ℕ) → ((r'.ended ≡ true) ⊎ (r'.failed ≡ true) → n ≡ 0) → Stage n r' q waits
-next (on handed g e) h (goes {text = text} f a w) n z = on (handed ++ w.handed) (runs.goes g a) (more-handed w handed ∙ ap (λ (t : List ℕ). t ++ text) e)
-next (on {s} handed g e) h (ends {unread} {text} f a c w) n z =
-    over (handed ++ w.handed) (s ++ unread) (z (inl f))
-    (λ b. more-handed w handed ∙ ap (λ (t : List ℕ). t ++ text) e ∙ prints-journal g a c (omega (arith, length-append s unread)))
-next {p = p} (on {s} {text = before} handed g e) h (faults {text = text} f a c w) n z =
-    faulted (handed ++ w.handed) s before p.records p.offset p.unused (z (inl f))
-    (more-handed w handed ∙ ap (λ (t : List ℕ). t ++ text) e ∙ ap (λ (t : List ℕ). before ++ t) (closing c))
-    (λ b. all_but_last g b a)
-next (on handed g e) h (fails f) n z = failed (z (inr f)) f
-next (over handed s e f) h t n z = absurd (omega arith)
-next (faulted handed s text records offset unused e f g) h t n z = absurd (omega arith)
-next (failed e f) h t n z = absurd (omega arith)
-
-pub neither : (a b : Bool) → (a || b) ≡ false → (a ≡ true) ⊎ (b ≡ true) → ⊥
-neither true b e h = let z : ◌≡◌ {A = ℕ} 0 1 = cc in omega arith
-neither false b e (inl h) = let z : ◌≡◌ {A = ℕ} 0 1 = cc in omega arith
-neither false b e (inr h) = let z : ◌≡◌ {A = ℕ} 0 1 = cc in omega arith
+  pub turned-over : {b : Bool} → Turned p waited (Ok b) q waits → b ≡ false → Played (Ok tt) q waits
+  turned-over (goes f g w) e = let z : ⊥ = cc in absurd z
+  turned-over (ends f a c w) e = over (s.handed ++ w.handed) refl s.ran a c (more-said s w)
+  turned-over (faults f a c w) e = faulted (s.handed ++ w.handed) refl s.ran a c (more-said s w)
+  turned-over (fails f) e = let z : ⊥ = cc in absurd z

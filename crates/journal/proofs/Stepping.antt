@@ -1,73 +1,74 @@
 -- What the program does in a turn is a step of a run, or its end.
-use Rattle.std.proofs.Common.{◌≡◌, ℕ, ◌≤◌, List, [], ◌∷◌, ◌++◌, length, take, refl, ap, append_assoc, arith}
-use Rattle.standard.specs.Calls.{Lent}
+use Rattle.std.proofs.Common.{◌≡◌, ℕ, Bool, true, List, [], ◌∷◌, ◌++◌, length, drop, Ok, Err, refl, sym, ◌∙◌, ap, append_assoc, length-append, arith}
 use Rattle.standard.specs.Journal.{step}
-use Rattle.journals.specs.Buffers.{part, Kept}
-use Rattle.journals.specs.Texts.{line_length}
+use Rattle.journals.specs.Runs as runs
+use Rattle.journals.specs.Runs.{counted, left_over}
+use Rattle.journals.specs.Say.{lent_of}
 use Rattle.journals.specs.Turns.{turn_on}
 use Rattle.journals.specs.Prints.{PrintLeft}
-use Rattle.journals.specs.Runs as runs
-use Rattle.journals.specs.Runs.{Standing, counted, Called, left_over}
+use Rattle.journals.specs.declared.prints.Printed.{Printed}
+use Rattle.journals.specs.declared.records.Pause.{Pause}
+use Rattle.journals.specs.declared.records.Pause.TheVariants.{Unknown}
+use Rattle.journals.specs.declared.tables.Tables.{Tables}
 use Rattle.journals.specs.declared.lines.Ending.{Ending}
 use Rattle.journals.specs.declared.lines.Ending.TheVariants as ending
-use Rattle.journals.specs.declared.prints.Printed.{Printed}
-use Rattle.journals.specs.declared.prints.Printed.TheVariants as printed
-use Rattle.journal.specs.Stands.{used_of, refilled_of}
 use Rattle.journal.specs.Waits.{Emits}
+use Rattle.journal.specs.Reads.{Arrives}
 use Rattle.journal.specs.Steps.{standing, Stopped, Turned, goes, ends, faults, ReadOn}
-use Rattle.journal.specs.declared.place.Place.{Place}
-use Rattle.journal.proofs.Joining.{part-behind, joined}
+use Rattle.journal.specs.declared.player.Player.{Player}
 
--- The call of print_next
+-- What is left at the end: a read brought no bytes
 
-pub called : (p : Place) (arrived : List ℕ) {s out line : List ℕ} {l l' : Lent} {number : ℕ} {x y : Printed} → s ≡ part arrived p.from p.filled → number ≡ counted p.records 1
-    → length out ≡ line_length → PrintLeft number p.offset (turn_on l (step s)) s out x l'.retained l'.start l'.blocks l'.timings line → x ≡ y
-    → Called (standing p arrived l) y l' line
-called p arrived {out = out} e f room h g = record { out = out; room = room; left = rw (e, f, g) at h }
+same-length : (s : List ℕ) {t : List ℕ} → Arrives s (Ok 0) t → length t ≡ length s
+same-length s a = rw (a.1, length-append s a.0) (omega (arith, a.2))
 
--- A line waits, and its record is used
-
-pub used-on : (p : Place) (arrived lines lines' : List ℕ) {r : Place} {line : List ℕ} {l l' : Lent} {k n waiting : ℕ} → Called (standing p arrived l) (printed.Line k n) l' line
-    → r ≡ used_of p (counted p.records 1) k waiting → Emits (take p.waiting lines) (take n line) (take waiting lines')
-    → Turned (standing p arrived l) (take p.waiting lines) r (standing r arrived l') (take r.waiting lines')
-used-on p arrived lines lines' {line = line} {k = k} {n} c e w =
-    rw e (goes {part = []} {text = take n line} refl (rw (part-behind arrived p.from p.filled k) (runs.prints c)) w)
-
--- The lines were written, and the input is read
-
-pub written-first : (p : Place) (lines lines' : List ℕ) {q r : Place} {e : Ending} {n : ℕ} → q ≡ refilled_of p n → Stopped q e lines r lines' → Stopped p e lines r lines'
-written-first p lines lines' f z =
-    let w = rw f at z.emitted in
-    record {
-      ended = z.ended;
-      text = z.text;
-      closed = rw f at z.closed;
-      emitted = record { handed = take p.waiting lines ++ w.handed; same = rw append_assoc (ap (λ (t : List ℕ). take p.waiting lines ++ t) w.same) };
-    }
-
-pub none_left : (at : ℕ) (s : List ℕ) → length s ≡ 0 → ending.Complete ≡ left_over at s
+none_left : (at : ℕ) (s : List ℕ) → length s ≡ 0 → ending.Complete ≡ left_over at s
 none_left at [] h = refl
 none_left at (a ∷ s) h = absurd (omega arith)
 
-pub some_left : (at : ℕ) (s : List ℕ) → (length s ≡ 0 → ⊥) → ending.Torn at ≡ left_over at s
+some_left : (at : ℕ) (s : List ℕ) → (length s ≡ 0 → ⊥) → ending.Torn at ≡ left_over at s
 some_left at [] h = absurd (h refl)
 some_left at (a ∷ s) h = refl
 
-module _ (p : Place) (arrived lines arrived' : List ℕ) where
-  pub filled_on : {r : Place} {m : List ℕ} {kept filled : ℕ} → Kept arrived p.from p.filled kept m → take kept arrived' ≡ take kept m → kept ≤ filled
-      → r ≡ refilled_of p filled → ReadOn p arrived lines r arrived' lines
-  filled_on {kept = kept} {filled} k same h e l l' line c =
-      rw e (goes {part = part arrived' kept filled} {text = []} refl (rw (joined k arrived' same h) (runs.arrives c (part arrived' kept filled))) (record { handed = take p.waiting lines; same = refl }))
+-- The lines were written, and the input is read
 
-  module _ {r : Place} (lines' : List ℕ) where
-    pub ended-on : {e : Ending} → e ≡ left_over p.offset (part arrived p.from p.filled) → Stopped p e lines r lines' → ReadOn p arrived lines r arrived' lines'
-    ended-on {e} f z l l' line c = ends {unread = []} {e = e} z.ended (rw f (runs.ends c)) z.closed z.emitted
+abbrev read : Player → List ℕ → List ℕ → Player
+read p after lines = record { records = p.records; offset = p.offset; tables = p.tables; arrived = after; lines = lines }
 
-    pub faulted-on : Stopped p (ending.Fault p.offset) lines r lines' → ReadOn p arrived lines r arrived' lines'
-    faulted-on z l l' line c = faults z.ended c z.closed z.emitted
+module _ (p : Player) {after lines : List ℕ} (e : lines ≡ []) where
+  pub goes-on : {n : ℕ} → Arrives p.arrived (Ok n) after → ReadOn p (Ok true) (read p after lines)
+  goes-on a l c = rw (a.1, e) (goes {part = a.0} {text = []} refl (runs.arrives c a.0) (record { handed = p.lines; same = refl }))
 
--- A mark that no record has
+  module _ {x : Ending} {r : Bool} {q : Player} (z : Stopped (read p after lines) x r q) where
+    written_first : Emits p.lines z.text q.lines
+    written_first =
+        let w = rw e at z.emitted in
+        record { handed = p.lines ++ w.handed; same = rw append_assoc (ap (λ (t : List ℕ). p.lines ++ t) w.same) }
 
-pub stopped-on : (p : Place) (arrived lines lines' : List ℕ) {r : Place} {q : Standing} {l l' : Lent} {line : List ℕ} → Called (standing p arrived l) printed.Unknown l' line
-    → Stopped p (ending.BadMark p.offset) lines r lines' → Turned (standing p arrived l) (take p.waiting lines) r q (take r.waiting lines')
-stopped-on p arrived lines lines' c z = ends z.ended (runs.stops c []) z.closed z.emitted
+    ended-on : x ≡ left_over p.offset p.arrived → ReadOn p (Ok r) q
+    ended-on f l c = ends {unread = []} {e = x} (ap Ok z.ended) (rw f (runs.ends c)) z.closed written_first
+
+    pub complete-on : {n : ℕ} → x ≡ ending.Complete → Arrives p.arrived (Ok n) after → n ≡ 0 → length after ≡ 0 → ReadOn p (Ok r) q
+    complete-on f a h k =
+        ended-on (f ∙ none_left p.offset p.arrived (sym (same-length p.arrived (rw h at a)) ∙ k))
+
+    pub torn-on : {n : ℕ} → x ≡ ending.Torn p.offset → Arrives p.arrived (Ok n) after → n ≡ 0 → (length after ≡ 0 → ⊥) → ReadOn p (Ok r) q
+    torn-on f a h k =
+        ended-on (f ∙ some_left p.offset p.arrived (λ i. k (same-length p.arrived (rw h at a) ∙ i)))
+
+    pub faulted-on : x ≡ ending.Fault p.offset → ReadOn p (Ok r) q
+    faulted-on f l c = faults (ap Ok z.ended) c (rw f at z.closed) written_first
+
+-- A turn by the answer of print_next
+
+module _ (p : Player) where
+  pub used-on : {x : Printed} {s arrived lines : List ℕ} {t : Tables} → s ≡ p.arrived → PrintLeft (counted p.records 1) p.offset (turn_on (lent_of p.tables) (step s)) s (Ok x) t.retained t.start t.blocks t.timings
+      → arrived ≡ drop x.used p.arrived → Emits p.lines x.line lines
+      → Turned (standing p) p.lines (Ok true) (standing (record { records = counted p.records 1; offset = counted p.offset x.used; tables = t; arrived = arrived; lines = lines })) lines
+  used-on e c f w = rw f (goes {part = []} refl (runs.prints (record { left = rw e at c })) w)
+
+  pub stopped-on : {s : List ℕ} {t : Tables} {y : Pause} {r : Bool} {q : Player} → s ≡ p.arrived
+      → PrintLeft (counted p.records 1) p.offset (turn_on (lent_of p.tables) (step s)) s (Err y) t.retained t.start t.blocks t.timings
+      → y ≡ Unknown → Stopped (record { records = p.records; offset = p.offset; tables = t; arrived = p.arrived; lines = p.lines }) (ending.BadMark p.offset) r q
+      → Turned (standing p) p.lines (Ok r) (standing q) q.lines
+  stopped-on e c f z = ends {unread = []} (ap Ok z.ended) (runs.stops (record { left = rw (e, f) at c }) []) z.closed z.emitted

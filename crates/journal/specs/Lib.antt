@@ -1,4 +1,4 @@
 -- What the contracts of this program cite.
-pub mod Stands
 pub mod Waits
+pub mod Reads
 pub mod Steps

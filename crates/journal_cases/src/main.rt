@@ -4,7 +4,6 @@
 mod shown;
 
 use crate::shown::show;
-use journals::buffers::part;
 use rows::numbers::PAYLOAD_LIMIT;
 use std::io::Write;
 
@@ -21,89 +20,92 @@ const LONGEST: usize = HEAD + 0xffff;
 const WITH_GAP: usize = LONGEST + 2;
 
 fn endings<W: Write>(output: &mut W) {
-    show(output, b"empty\n", b"");
-    show(output, b"two records\n", b"GPRS");
-    show(output, b"a lone byte\n", b"G");
-    show(output, b"a lone byte behind a record\n", b"GPR");
-    show(output, b"a lone byte that begins two marks\n", b"P");
-    show(output, b"a start cut after its first byte\n", b"PSP");
-    show(output, b"a mark alone\n", b"PL");
-    show(output, b"one byte of a length\n", b"PL\x00");
-    show(output, b"a length alone\n", b"PL\x00\x06");
-    show(
-        output,
-        b"inside a payload\n",
-        b"PL\x00\x06\x01\x04\x48\x00\x06",
-    );
-    show(output, b"an unknown mark\n", b"GPPGRS");
+    let cases: [(&str, &[u8]); 11] = [
+        ("empty", b""),
+        ("two records", b"GPRS"),
+        ("a lone byte", b"G"),
+        ("a lone byte behind a record", b"GPR"),
+        ("a lone byte that begins two marks", b"P"),
+        ("a start cut after its first byte", b"PSP"),
+        ("a mark alone", b"PL"),
+        ("one byte of a length", b"PL\x00"),
+        ("a length alone", b"PL\x00\x06"),
+        ("inside a payload", b"PL\x00\x06\x01\x04\x48\x00\x06"),
+        ("an unknown mark", b"GPPGRS"),
+    ];
+    for (title, journal) in cases {
+        show(output, title, journal);
+    }
 }
 
 fn doubts<W: Write>(output: &mut W) {
-    show(
-        output,
-        b"the journal of the specification\n",
-        b"GPPL\x00\x06\x01\x04\x48\x00\x06\x00PL\x00\x00PL\x00",
-    );
-    show(
-        output,
-        b"a reset leaves doubt\n",
-        b"GPRSPL\x00\x06\x01\x04\x48\x00\x06\x00",
-    );
-    show(
-        output,
-        b"a refusal leaves it\n",
-        b"GPPL\x00\x00PL\x00\x06\x01\x04\x48\x00\x06\x00PL\x00\x06\x01\x04\x48\x00\x06\x00",
-    );
-    show(
-        output,
-        b"a start ends the doubt of a gap\n",
-        b"GPPSPL\x00\x06\x01\x04\x48\x00\x06\x00",
-    );
-    show(
-        output,
-        b"a start ends the doubt of a reset\n",
-        b"RSPSPL\x00\x06\x01\x04\x48\x00\x06\x00",
-    );
-    show(
-        output,
-        b"all four marks\n",
-        b"GPPL\x00\x06\x01\x04\x48\x00\x06\x00RSPL\x00\x06\x01\x04\x48\x00\x06\x00PSPL\x00\x06\x01\x04\x48\x00\x06\x00",
-    );
+    let cases: [(&str, &[u8]); 6] = [
+        (
+            "the journal of the specification",
+            b"GPPL\x00\x06\x01\x04\x48\x00\x06\x00PL\x00\x00PL\x00",
+        ),
+        (
+            "a reset leaves doubt",
+            b"GPRSPL\x00\x06\x01\x04\x48\x00\x06\x00",
+        ),
+        (
+            "a refusal leaves it",
+            b"GPPL\x00\x00PL\x00\x06\x01\x04\x48\x00\x06\x00PL\x00\x06\x01\x04\x48\x00\x06\x00",
+        ),
+        (
+            "a start ends the doubt of a gap",
+            b"GPPSPL\x00\x06\x01\x04\x48\x00\x06\x00",
+        ),
+        (
+            "a start ends the doubt of a reset",
+            b"RSPSPL\x00\x06\x01\x04\x48\x00\x06\x00",
+        ),
+        (
+            "all four marks",
+            b"GPPL\x00\x06\x01\x04\x48\x00\x06\x00RSPL\x00\x06\x01\x04\x48\x00\x06\x00PSPL\x00\x06\x01\x04\x48\x00\x06\x00",
+        ),
+    ];
+    for (title, journal) in cases {
+        show(output, title, journal);
+    }
 }
 
 // Cut payloads: as Truncated they miss bits, as Limit none.
 fn cuts<W: Write>(output: &mut W) {
-    show(
-        output,
-        b"a payload without its last byte\n",
-        b"PL\x00\x05\x01\x04\x48\x00\x06",
-    );
-    show(
-        output,
-        b"a size cut behind its first group\n",
-        b"PL\x00\x03\x01\x04\x42",
-    );
+    let cases: [(&str, &[u8]); 2] = [
+        (
+            "a payload without its last byte",
+            b"PL\x00\x05\x01\x04\x48\x00\x06",
+        ),
+        (
+            "a size cut behind its first group",
+            b"PL\x00\x03\x01\x04\x42",
+        ),
+    ];
+    for (title, journal) in cases {
+        show(output, title, journal);
+    }
 }
 
 // Payloads of zeros, by the two bytes of their length.
 fn lengths<W: Write>(output: &mut W) {
     let mut bytes = [0u8; WITH_GAP];
-    bytes[0] = 0x50;
-    bytes[1] = 0x4c;
+    bytes[0] = b'P';
+    bytes[1] = b'L';
     bytes[2] = 0x40;
-    show(output, b"16,384 bytes\n", part(&bytes, 0, AT_THE_LIMIT));
+    show(output, "16,384 bytes", &bytes[..AT_THE_LIMIT]);
     bytes[3] = 0x01;
-    show(output, b"16,385 bytes\n", part(&bytes, 0, OVER_THE_LIMIT));
+    show(output, "16,385 bytes", &bytes[..OVER_THE_LIMIT]);
     show(
         output,
-        b"16,385 bytes, the last missing\n",
-        part(&bytes, 0, AT_THE_LIMIT),
+        "16,385 bytes, the last missing",
+        &bytes[..AT_THE_LIMIT],
     );
     bytes[2] = 0xff;
     bytes[3] = 0xff;
-    bytes[LONGEST] = 0x47;
-    bytes[LONGEST + 1] = 0x50;
-    show(output, b"65,535 bytes, and a gap\n", &bytes);
+    bytes[LONGEST] = b'G';
+    bytes[LONGEST + 1] = b'P';
+    show(output, "65,535 bytes, and a gap", &bytes);
 }
 
 fn main(rt: HostRuntime) {

@@ -1,62 +1,34 @@
--- A turn, and the line that was put for it, make the print.
-use Prim.Native.Nat.{ℕ}
-use mathlib.Core.Path.{◌≡◌, ◌∙◌, ap}
-use mathlib.Core.List.{List}
-use native.Mathlib.Nat.{zero-add}
-use native.Mathlib.Omega.{arith}
-use lib.IntN.{ℤ}
-use lib.ListN.{length}
+-- A turn, and the line that is put for it, make the print.
+use Rattle.std.proofs.Common.{◌≡◌, ℕ, List, [], ℤ, Result, Ok, Err, IsErrAnd}
 use Rattle.standard.specs.Journal.{line}
-use Rattle.rows.specs.Places.{written}
 use Rattle.journals.specs.Say.{said_reply}
 use Rattle.journals.specs.Turns.{Turned, TurnLeft}
 use Rattle.journals.specs.Texts.{line_length, Puts}
 use Rattle.journals.specs.Prints.{PrintLeft}
-use Rattle.journals.specs.declared.replies.Reply.{Reply}
+use Rattle.journals.specs.declared.records.Pause.{Pause}
+use Rattle.journals.specs.declared.records.Pause.TheVariants.{More, Unknown}
 use Rattle.journals.specs.declared.turns.Turn.{Turn}
-use Rattle.journals.specs.declared.turns.Turn.TheVariants as turn
-use Rattle.journals.specs.declared.prints.Printed.TheVariants as printed
+use Rattle.journals.specs.declared.prints.Printed.{Printed}
 
-module _ (number offset : ℕ) {d : Turned} {s out : List ℕ} {x : Turn} {r st b : List ℤ} {t : List ℕ} (p : TurnLeft d s x r st b t) where
-  pub printed-line : {a : Reply} {k n : ℕ} {out' : List ℕ} → x ≡ turn.Replied a k → Puts line_length out 0 (line number offset (said_reply a)) n out'
-      → PrintLeft number offset d s out (printed.Line k n) r st b t out'
-  printed-line {a} {k} e q =
-      let said = rw e at p.said in
-      let moves = rw e at p.moves in
+module _ (number offset : ℕ) {d : Turned} {s : List ℕ} {r st b : List ℤ} {t : List ℕ} where
+  pub printed-line : {x : Turn} {text : List ℕ} → TurnLeft d s (Ok x) r st b t → Puts line_length [] (line number offset (said_reply x.reply)) text
+      → PrintLeft number offset d s (Ok (record { line = text; used = x.used })) r st b t
+  printed-line p q =
       record {
-        answer = rw (← said) (ap (printed.Line k) (q.place ∙ zero-add (length (line number offset (said_reply a)))));
-        inside = (moves.0, moves.1, omega (arith, q.place, q.short));
+        answer = rw (← p.said, q.left);
+        inside = (p.moves.0, p.moves.1, rw q.left q.short);
         retained = p.retained;
         start = p.start;
         blocks = p.blocks;
         timings = p.timings;
-        put = rw (← said) q.left;
       }
 
-  pub printed-more : x ≡ turn.More → PrintLeft number offset d s out printed.More r st b t out
-  unfolding written
-  printed-more e =
-      let said = rw e at p.said in
-      record {
-        answer = rw (← said);
-        inside = rw e at p.moves;
-        retained = p.retained;
-        start = p.start;
-        blocks = p.blocks;
-        timings = p.timings;
-        put = rw (← said);
-      }
+  waits_or_stops : (e : Pause) → TurnLeft d s (Err e) r st b t → PrintLeft number offset d s (Err e) r st b t
+  waits_or_stops More p =
+      record { answer = rw (← p.said); inside = p.moves; retained = p.retained; start = p.start; blocks = p.blocks; timings = p.timings }
+  waits_or_stops Unknown p =
+      record { answer = rw (← p.said); inside = tt; retained = p.retained; start = p.start; blocks = p.blocks; timings = p.timings }
 
-  pub printed-unknown : x ≡ turn.Unknown → PrintLeft number offset d s out printed.Unknown r st b t out
-  unfolding written
-  printed-unknown e =
-      let said = rw e at p.said in
-      record {
-        answer = rw (← said);
-        inside = tt;
-        retained = p.retained;
-        start = p.start;
-        blocks = p.blocks;
-        timings = p.timings;
-        put = rw (← said);
-      }
+  pub printed-pause : {e : Pause} {y : Result Printed Pause} → TurnLeft d s (Err e) r st b t → IsErrAnd y (λ f. f ≡ e) → PrintLeft number offset d s y r st b t
+  printed-pause {y = Ok x} p h = absurd h
+  printed-pause {y = Err f} p h = rw h (waits_or_stops _ p)

@@ -6,19 +6,19 @@ use native.Mathlib.Nat.{mod-eq_of_lt}
 use native.Mathlib.Omega.{arith}
 use lib.ListN.{length, take, drop, length-append, length-drop}
 use lib.Seq.{take-append_seam}
+use Rattle.std.specs.Prelude.{Result, Ok, Err}
 use Rattle.standard.specs.Calls.{Lent}
 use Rattle.standard.specs.Journal.{Record, Step, whole, more, unknown, step, rest, bad_mark, journal_from, journal, reply_to, line, last_line, lines_from, printed}
 use Rattle.standard.proofs.JournalTurns.{turns-suffice}
 use Rattle.standard.proofs.JournalParts.{whole-stays, unknown-stays, whole-sized, whole-within, after-whole}
-use Rattle.rows.specs.Places.{written}
-use Rattle.rows.proofs.Written.{part_same}
 use Rattle.journals.specs.Turns.{turn_on}
-use Rattle.journals.specs.Texts.{line_length, ending_text}
+use Rattle.journals.specs.Texts.{ending_text}
 use Rattle.journals.specs.Prints.{PrintLeft}
 use Rattle.journals.specs.Runs.{Standing, at_start, counted, Called, Closed, Goes, prints, arrives, left_over, Ends, ends, stops, Ran, begins, goes}
 use Rattle.journals.specs.declared.lines.Ending.{Ending}
+use Rattle.journals.specs.declared.records.Pause.{Pause}
+use Rattle.journals.specs.declared.records.Pause.TheVariants.{More, Unknown}
 use Rattle.journals.specs.declared.prints.Printed.{Printed}
-use Rattle.journals.specs.declared.prints.Printed.TheVariants as print
 
 -- What the paper prints of the bytes from offset `at` on, n records before them
 
@@ -46,39 +46,35 @@ module _ (n at : ℕ) (l : Lent) (s : List ℕ) where
 
 -- What the answer of a call says
 
-front : (out : List ℕ) {m text : List ℕ} {n : ℕ} → length out ≡ line_length → m ≡ written out 0 text → n ≡ length text → n ≤ line_length → take n m ≡ text
-front out {text = text} e f g h = rw (f, g) (part_same out 0 text (omega arith))
-
-record Answered (p : Standing) (k : ℕ) (l : Lent) (text : List ℕ) : Type 0 where
+record Answered (p : Standing) (x : Printed) (l : Lent) : Type 0 where
   what : Record
-  stood : step p.unused ≡ whole what k
+  stood : step p.unused ≡ whole what x.used
   tables : l ≡ (reply_to p.tables what).lent
-  said : text ≡ line (counted p.records 1) p.offset (reply_to p.tables what).reply
+  said : x.line ≡ line (counted p.records 1) p.offset (reply_to p.tables what).reply
 
-abbrev Says : Standing → Lent → List ℕ → Printed → Type 0
-Says p l m (print.Line k n) = Answered p k l (take n m)
-Says p l m print.More = (step p.unused ≡ more) × (l ≡ p.tables)
-Says p l m print.Unknown = step p.unused ≡ unknown
+abbrev Says : Standing → Lent → Result Printed Pause → Type 0
+Says p l (Ok x) = Answered p x l
+Says p l (Err More) = (step p.unused ≡ more) × (l ≡ p.tables)
+Says p l (Err Unknown) = step p.unused ≡ unknown
 
-says : {p : Standing} {a : Printed} {l : Lent} {m : List ℕ} → Called p a l m → Says p l m a
+says : {p : Standing} {a : Result Printed Pause} {l : Lent} → Called p a l → Says p l a
 unfolding turn_on
-says {p} {a} {l} {m} c = go (step p.unused) refl c.left
+says {p} {a} {l} c = go (step p.unused) refl c.left
   where
     go : (x : Step) → step p.unused ≡ x
-        → PrintLeft (counted p.records 1) p.offset (turn_on p.tables x) p.unused c.out a l.retained l.start l.blocks l.timings m → Says p l m a
+        → PrintLeft (counted p.records 1) p.offset (turn_on p.tables x) p.unused a l.retained l.start l.blocks l.timings → Says p l a
     go (whole r k) e q =
-        let inside = rw q.answer at q.inside in
         rw q.answer (record {
           what = r;
           stood = e;
           tables = λ i. record { retained = q.retained i; start = q.start i; blocks = q.blocks i; timings = q.timings i };
-          said = front c.out c.room q.put refl inside.2;
+          said = refl;
         })
     go more e q = rw q.answer (e, λ i. record { retained = q.retained i; start = q.start i; blocks = q.blocks i; timings = q.timings i })
     go unknown e q = rw q.answer e
 
 pub closing : {n : ℕ} {e : Ending} {text : List ℕ} → Closed n e text → text ≡ ending_text n e
-closing c = c.front ∙ front c.out {n = c.next} c.room c.left.left (omega (arith, c.left.place)) (omega (arith, c.left.place, c.left.short))
+closing c = c.left.left
 
 left_over_lem : (n at : ℕ) (s : List ℕ) → ending_text n (left_over at s) ≡ last_line n (rest at s)
 unfolding rest
@@ -134,7 +130,7 @@ holds (goes {s} {part = part} r g) b =
 
 module _ {s text : List ℕ} {p : Standing} (r : Ran s text p) where
   -- all lines were put out when print_next asks for more: the last line alone hangs on what happens then
-  pub all_but_last : {l : Lent} {m : List ℕ} → length s < 2 ^ 64 → Called p print.More l m → printed s ≡ text ++ ending_text p.records (left_over p.offset p.unused)
+  pub all_but_last : {l : Lent} → length s < 2 ^ 64 → Called p (Err More) l → printed s ≡ text ++ ending_text p.records (left_over p.offset p.unused)
   all_but_last b c =
       rw (left_over_lem p.records p.offset p.unused, ← onward-more p.records p.offset p.tables p.unused (says c).0)
       (rw (append-nil, append-nil) at ((holds r b).ahead []))

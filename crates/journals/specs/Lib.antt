@@ -5,4 +5,3 @@ pub mod Turns
 pub mod Texts
 pub mod Prints
 pub mod Runs
-pub mod Buffers

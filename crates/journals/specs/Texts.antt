@@ -1,15 +1,18 @@
--- Text that is put into a buffer, and the last line.
-use Rattle.std.specs.Prelude.{ℕ, ◌+◌, ◌≤◌, ◌≡◌, List, [], ◌∷◌, ◌++◌, length}
+-- Text that is put together, and the last line.
+use Rattle.std.specs.Prelude.{ℕ, ◌+◌, ◌≤◌, ◌<◌, ◌≡◌, List, [], ◌∷◌, ◌++◌, length}
 use Rattle.standard.specs.Journal as journal
-use Rattle.rows.specs.Places.{written}
 use Rattle.journals.specs.declared.lines.Ending.{Ending}
 use Rattle.journals.specs.declared.lines.Ending.TheVariants as ending
 
--- l with a text of n bytes at most from place `at` on is m, and `next` is the place behind it
-pub record Puts (n : ℕ) (l : List ℕ) (at : ℕ) (text : List ℕ) (next : ℕ) (m : List ℕ) : Type 0 where
-  pub left : m ≡ written l at text
-  pub place : next ≡ at + length text
+-- m is l with a text of n bytes at most behind it
+pub record Puts (n : ℕ) (l text m : List ℕ) : Type 0 where
+  pub left : m ≡ l ++ text
   pub short : length text ≤ n
+
+-- m is l with the text behind it where n bytes have room for both, and else l
+pub data Appended (n : ℕ) (l text m : List ℕ) : Type 0 where
+  put : length l + length text ≤ n → m ≡ l ++ text → Appended n l text m
+  full : n < length l + length text → m ≡ l → Appended n l text m
 
 -- no reply is longer, with its space: a word of two letters and four numbers
 abbrev pub reply_length : ℕ

@@ -1,18 +1,21 @@
-// Replies to lines of text, put into a buffer from a place on.
+// Replies to lines of text.
 ghost use Rattle.std.specs.Prelude.{◌+◌, ◌≤◌, length, [], ◌∷◌, ◌++◌};
-ghost use Rattle.standard.specs.Journal.{spaced, answer_text, reply_text, line};
-ghost use Rattle.journals.specs.Say.{said_answer, said_reply};
+ghost use Rattle.standard.specs.Journal.{spaced, reply_text, answer_text, line};
+ghost use Rattle.oamd.specs.Promises.{said_decoded};
+ghost use Rattle.journals.specs.Say.{said_reply};
 ghost use Rattle.journals.specs.Texts.{Puts, reply_length, line_length, ending_text};
 
-use crate::replies::{Answer, Reply};
-use crate::texts::{put_decimal, put_spaced, put_three, put_word};
-use rows::numbers::ACCEPTED;
+use crate::replies::Reply;
+use crate::texts::Text;
+use oamd::{DecodeError, Frame};
 
 // No line is longer: six numbers of 20 digits at most, six spaces, a word of two letters and the newline.
 pub const LINE_LENGTH: usize = 129;
 
+pub type Line = Text<LINE_LENGTH>;
+
 // The specification's endings; in a fault the input could not be read on from this offset.
-#[derive(Clone, Copy)]
+#[derive(Clone, Copy, PartialEq, Eq)]
 pub enum Ending {
     Complete,
     Torn(u64),
@@ -20,59 +23,80 @@ pub enum Ending {
     Fault(u64),
 }
 
-// The line of a record stands at the front of the buffer; what follows it there stays. The answer is its length.
-pub fn put_line(out: &mut [u8; LINE_LENGTH], number: u64, offset: u64, reply: Reply) -> usize
-    ensures { Puts line_length out.old 0 (line number offset (said_reply reply)) result out.new }
+// The line of a record. Not by `write!`, which promises a text only where no write fails.
+pub fn put_line(number: u64, offset: u64, reply: Reply) -> Line
+    ensures { Puts line_length [] (line number offset (said_reply reply)) result }
 {
-    let numbered = put_decimal(out, 0, number);
-    let placed = put_spaced(out, numbered, offset);
-    let replied = put_reply(out, placed, reply);
-    put_word(out, replied, b"\n")
+    let mut line = Line::new();
+    line.push_decimal(number);
+    line.push_numbers(&[offset]);
+    put_reply(&mut line, reply);
+    line.push(b"\n");
+    line
 }
 
-// The last line, in the same way.
-pub fn put_last(out: &mut [u8; LINE_LENGTH], records: u64, ending: Ending) -> usize
-    ensures { Puts line_length out.old 0 (ending_text records ending) result out.new }
+// The last line.
+pub fn put_last(records: u64, ending: Ending) -> Line
+    ensures { Puts line_length [] (ending_text records ending) result }
 {
     match ending {
-        Ending::Complete => put_count(out, b"end", records),
-        Ending::Torn(offset) => put_count(out, b"torn", offset),
-        Ending::BadMark(offset) => put_count(out, b"mark", offset),
-        Ending::Fault(offset) => put_count(out, b"fault", offset),
+        Ending::Complete => put_count(b"end", records),
+        Ending::Torn(offset) => put_count(b"torn", offset),
+        Ending::BadMark(offset) => put_count(b"mark", offset),
+        Ending::Fault(offset) => put_count(b"fault", offset),
     }
 }
 
-fn put_reply(out: &mut [u8], at: usize, reply: Reply) -> usize
-    requires { at + reply_length ≤ length out.old }
-    ensures { Puts reply_length out.old at (32 ∷ reply_text (said_reply reply)) result out.new }
+fn put_reply(line: &mut Line, reply: Reply)
+    requires { length line.old + reply_length ≤ line_length }
+    ensures { Puts reply_length line.old (32 ∷ reply_text (said_reply reply)) line.new }
 {
     match reply {
-        Reply::Answered(answer) => put_answer(out, at, answer),
-        Reply::Noted => put_word(out, at, b" gap"),
-        Reply::Cleared => put_word(out, at, b" reset"),
-        Reply::Started => put_word(out, at, b" start"),
+        Reply::Answered(answer) => put_answer(line, answer),
+        Reply::Noted => line.push(b" gap"),
+        Reply::Cleared => line.push(b" reset"),
+        Reply::Started => line.push(b" start"),
     }
 }
 
-fn put_answer(out: &mut [u8], at: usize, answer: Answer) -> usize
-    requires { at + reply_length ≤ length out.old }
-    ensures { Puts reply_length out.old at (32 ∷ answer_text (said_answer answer)) result out.new }
+fn put_answer(line: &mut Line, answer: Result<Frame, DecodeError>)
+    requires { length line.old + reply_length ≤ line_length }
+    ensures { Puts reply_length line.old (32 ∷ answer_text (said_decoded answer)) line.new }
 {
-    if answer.number == ACCEPTED as u64 {
-        let said = put_word(out, at, b" ok");
-        return put_three(out, said, answer.objects, answer.blocks, answer.unsettled);
+    match answer {
+        Ok(frame) => {
+            line.push(b" ok");
+            line.push_numbers(&[
+                frame.objects as u64,
+                frame.blocks as u64,
+                frame.unsettled as u64,
+            ]);
+        }
+        Err(DecodeError::Refused(refusal)) => {
+            line.push(b" no");
+            line.push_numbers(&[
+                refusal.cause.number() as u64,
+                refusal.context as u64,
+                refusal.place.0 as u64,
+                refusal.missing as u64,
+            ]);
+        }
+        // Of what was not read the number alone is told.
+        Err(DecodeError::Unread(fault)) => {
+            line.push(b" no");
+            line.push_numbers(&[fault.number() as u64, 0, 0, 0]);
+        }
     }
-    let said = put_word(out, at, b" no");
-    let placed = put_three(out, said, answer.number, answer.context, answer.place);
-    put_spaced(out, placed, answer.missing)
 }
 
 // A word and a number are a line.
-fn put_count(out: &mut [u8; LINE_LENGTH], word: &[u8], number: u64) -> usize
+fn put_count(word: &[u8], number: u64) -> Line
     requires { length word.now ≤ 5 }
-    ensures { Puts line_length out.old 0 (word.now ++ spaced (number ∷ []) ++ 10 ∷ []) result out.new }
+    ensures { Puts line_length [] (word.now ++ spaced (number ∷ []) ++ 10 ∷ []) result }
 {
-    let said = put_word(out, 0, word);
-    let counted = put_spaced(out, said, number);
-    put_word(out, counted, b"\n")
+    let mut line = Line::new();
+    line.push(word);
+    line.push_numbers(&[number]);
+    line.push(b"\n");
+    line
 }

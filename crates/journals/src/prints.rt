@@ -4,15 +4,15 @@ ghost use Rattle.oamd.specs.Promises.{lent};
 ghost use Rattle.journals.specs.Turns.{turn_on};
 ghost use Rattle.journals.specs.Prints.{PrintLeft};
 
-use crate::lines::{LINE_LENGTH, put_line};
-use crate::turns::{Turn, advance};
+use crate::lines::{Line, put_line};
+use crate::records::Pause;
+use crate::turns::advance;
 
-// A line: how many bytes its record has, and how many the line. Else nothing was changed.
-#[derive(Clone, Copy)]
-pub enum Printed {
-    Line { used: usize, length: usize },
-    More,
-    Unknown,
+// The line of a record, and how many bytes the record has.
+#[derive(Drop)]
+pub struct Printed {
+    pub line: Line,
+    pub used: usize,
 }
 
 pub fn print_next(
@@ -23,16 +23,12 @@ pub fn print_next(
     start: &mut [i16],
     blocks: &mut [i16],
     timings: &mut [u16],
-    out: &mut [u8; LINE_LENGTH],
-) -> Printed
-    ensures { PrintLeft number offset (turn_on (lent retained.old start.old blocks.old timings.old) (step arrived.now)) arrived.now out.old result retained.new start.new blocks.new timings.new out.new }
+) -> Result<Printed, Pause>
+    ensures { PrintLeft number offset (turn_on (lent retained.old start.old blocks.old timings.old) (step arrived.now)) arrived.now result retained.new start.new blocks.new timings.new }
 {
-    match advance(arrived, retained, start, blocks, timings) {
-        Turn::Replied(reply, used) => {
-            let length = put_line(out, number, offset, reply);
-            Printed::Line { used, length }
-        }
-        Turn::More => Printed::More,
-        Turn::Unknown => Printed::Unknown,
-    }
+    let turn = advance(arrived, retained, start, blocks, timings)?;
+    Ok(Printed {
+        line: put_line(number, offset, turn.reply),
+        used: turn.used,
+    })
 }

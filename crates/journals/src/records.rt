@@ -1,7 +1,29 @@
 // Bytes to records: what stands at the head of the bytes that have arrived.
-ghost use Rattle.std.specs.Prelude.{◌≡◌, ◌&&◌, ◌≤◌, eqb, length, get_or, drop};
+ghost use Rattle.std.specs.Prelude.{◌≡◌, ◌+◌, length};
 ghost use Rattle.standard.specs.Journal.{step, payload_step};
 ghost use Rattle.journals.specs.Promises.{Stepped};
+
+#[derive(Clone, Copy)]
+pub enum Record<'a> {
+    Payload(&'a [u8]),
+    Gap,
+    Reset,
+    Start,
+}
+
+// A whole record, and how many bytes it has with its mark.
+#[derive(Clone, Copy)]
+pub struct Found<'a> {
+    pub what: Record<'a>,
+    pub length: usize,
+}
+
+// Why there is no record yet: it has not arrived whole, or no record has such a mark.
+#[derive(Clone, Copy, PartialEq, Eq)]
+pub enum Pause {
+    More,
+    Unknown,
+}
 
 // Each record begins with a mark.
 const MARK_LENGTH: usize = 2;
@@ -9,75 +31,42 @@ const MARK_LENGTH: usize = 2;
 // A payload's 16-bit big-endian length follows its mark.
 const PAYLOAD_AT: usize = 4;
 
-#[derive(Clone, Copy)]
-pub enum Kind {
-    Payload,
-    Gap,
-    Reset,
-    Start,
-}
-
-// A whole record: its body begins at `body`, and the next record at `end`. Only a payload's body is not empty.
-#[derive(Clone, Copy)]
-pub enum Found {
-    Whole { kind: Kind, body: usize, end: usize },
-    More,
-    Unknown,
-}
-
-pub fn step(arrived: &[u8]) -> Found
-    ensures { Stepped (step arrived.now) arrived.now result }
+pub fn step(arrived: &[u8]) -> Result<Found<'_>, Pause>
+    ensures { Stepped (step arrived.now) (length arrived.now) result }
 {
-    if arrived.len() < MARK_LENGTH {
-        return Found::More;
+    match arrived {
+        [b'P', b'L', behind @ ..] => payload_step(behind),
+        [b'G', b'P', ..] => Ok(bare(Record::Gap)),
+        [b'R', b'S', ..] => Ok(bare(Record::Reset)),
+        [b'P', b'S', ..] => Ok(bare(Record::Start)),
+        [_, _, ..] => Err(Pause::Unknown),
+        _ => Err(Pause::More),
     }
-    if has_mark(arrived, 0x50, 0x4c) {
-        return payload_step(arrived);
-    }
-    if has_mark(arrived, 0x47, 0x50) {
-        return bare(Kind::Gap);
-    }
-    if has_mark(arrived, 0x52, 0x53) {
-        return bare(Kind::Reset);
-    }
-    if has_mark(arrived, 0x50, 0x53) {
-        return bare(Kind::Start);
-    }
-    Found::Unknown
-}
-
-fn has_mark(arrived: &[u8], first: u8, second: u8) -> bool
-    requires { 2 ≤ length arrived.now }
-    ensures { result ≡ (eqb (get_or arrived.now 0 0) first && eqb (get_or arrived.now 1 0) second) }
-{
-    (arrived[0] == first) & (arrived[1] == second)
 }
 
 // A record that is its mark alone.
-fn bare(kind: Kind) -> Found
-    ensures { result ≡ Found.Whole kind 2 2 }
+fn bare(what: Record<'_>) -> Found<'_>
+    ensures { result ≡ record { what = what.entry; length = 2 } }
 {
-    Found::Whole {
-        kind,
-        body: MARK_LENGTH,
-        end: MARK_LENGTH,
+    Found {
+        what,
+        length: MARK_LENGTH,
     }
 }
 
 // What follows a payload's mark.
-fn payload_step(arrived: &[u8]) -> Found
-    ensures { Stepped (payload_step (drop 2 arrived.now)) arrived.now result }
+fn payload_step(behind: &[u8]) -> Result<Found<'_>, Pause>
+    ensures { Stepped (payload_step behind.now) (2 + length behind.now) result }
 {
-    if arrived.len() < PAYLOAD_AT {
-        return Found::More;
+    let [high, low, rest @ ..] = behind else {
+        return Err(Pause::More);
+    };
+    let length = u16::from_be_bytes([*high, *low]) as usize;
+    if rest.len() < length {
+        return Err(Pause::More);
     }
-    let length = (arrived[2] as usize) * 256 + (arrived[3] as usize);
-    if arrived.len() - PAYLOAD_AT < length {
-        return Found::More;
-    }
-    Found::Whole {
-        kind: Kind::Payload,
-        body: PAYLOAD_AT,
-        end: PAYLOAD_AT + length,
-    }
+    Ok(Found {
+        what: Record::Payload(&rest[..length]),
+        length: PAYLOAD_AT + length,
+    })
 }

@@ -1,46 +1,94 @@
-// Words and numbers as text, put into a buffer from a place on. Each answers the place behind it.
-ghost use Rattle.std.specs.Prelude.{◌+◌, ◌≤◌, length, [], ◌∷◌};
+// Text in fixed memory, put together from words and numbers.
+ghost use Rattle.std.specs.Prelude.{◌≡◌, ◌+◌, ◌*◌, ◌≤◌, List, length, take, [], ◌++◌, ℕ};
 ghost use Rattle.standard.specs.Journal.{decimal, spaced};
-ghost use Rattle.journals.specs.Texts.{Puts};
+ghost use Rattle.journals.specs.Texts.{Puts, Appended};
 
-pub fn put_word(out: &mut [u8], at: usize, word: &[u8]) -> usize
-    requires { at + length word.now ≤ length out.old }
-    ensures { Puts (length word.now) out.old at word.now result out.new }
-{
-    for i in 0..word.len() {
-        out[at + i] = word[i];
+use std::marker::Model;
+
+// In a contract it is the bytes that were put.
+#[derive(Drop)]
+pub struct Text<const N: usize> {
+    bytes: [u8; N],
+    length: usize,
+}
+
+impl<const N: usize> Model for Text<N> {
+    ghost Value = { List ℕ };
+
+    ghost view = { λ t. take t.length t.bytes };
+
+    ghost invariant = { λ t. t.length ≤ N };
+}
+
+impl<const N: usize> Text<N> {
+    pub fn new() -> Self
+        ensures { result ≡ [] }
+    {
+        Text {
+            bytes: [0; N],
+            length: 0,
+        }
     }
-    at + word.len()
-}
 
-// The digits before the last one first: no more than 20 calls deep.
-pub fn put_decimal(out: &mut [u8], at: usize, number: u64) -> usize
-    requires { at + 20 ≤ length out.old }
-    ensures { Puts 20 out.old at (decimal number) result out.new }
-{
-    if number < 10 {
-        out[at] = b'0' + number as u8;
-        return at + 1;
+    pub fn as_bytes(&self) -> &[u8]
+        ensures bytes { result.now ≡ self.now }
+        ensures short { length result.now ≤ N }
+    {
+        &self.bytes[..self.length]
     }
-    let last = put_decimal(out, at, number / 10);
-    out[last] = b'0' + (number % 10) as u8;
-    last + 1
-}
 
-// A number behind a space.
-pub fn put_spaced(out: &mut [u8], at: usize, number: u64) -> usize
-    requires { at + 21 ≤ length out.old }
-    ensures { Puts 21 out.old at (spaced (number ∷ [])) result out.new }
-{
-    let first = put_word(out, at, b" ");
-    put_decimal(out, first, number)
-}
+    // How many bytes more have room.
+    pub fn room(&self) -> usize
+        ensures { length self.now + result ≡ N }
+    {
+        N - self.length
+    }
 
-pub fn put_three(out: &mut [u8], at: usize, a: u64, b: u64, c: u64) -> usize
-    requires { at + 63 ≤ length out.old }
-    ensures { Puts 63 out.old at (spaced (a ∷ b ∷ c ∷ [])) result out.new }
-{
-    let second = put_spaced(out, at, a);
-    let third = put_spaced(out, second, b);
-    put_spaced(out, third, c)
+    pub fn clear(&mut self)
+        ensures { self.new ≡ [] }
+    {
+        self.length = 0;
+    }
+
+    pub fn push(&mut self, word: &[u8])
+        requires { length self.old + length word.now ≤ N }
+        ensures { self.new ≡ self.old ++ word.now }
+    {
+        let end = self.length + word.len();
+        let all = &mut self.bytes[..];
+        all[self.length..end].copy_from_slice(word);
+        self.length = end;
+    }
+
+    // The word is put where it has room; else nothing is changed.
+    pub fn append(&mut self, word: &[u8])
+        ensures { Appended N self.old word.now self.new }
+    {
+        if word.len() <= self.room() {
+            self.push(word);
+        }
+    }
+
+    // The digits before the last one first: no more than 20 calls deep.
+    pub fn push_decimal(&mut self, number: u64)
+        requires { length self.old + 20 ≤ N }
+        ensures { Puts 20 self.old (decimal number) self.new }
+    {
+        if number < 10 {
+            return self.push(&[b'0' + number as u8]);
+        }
+        self.push_decimal(number / 10);
+        self.push(&[b'0' + (number % 10) as u8]);
+    }
+
+    // Each behind a space.
+    pub fn push_numbers(&mut self, numbers: &[u64])
+        requires { length self.old + 21 * length numbers.now ≤ N }
+        ensures { Puts (21 * length numbers.now) self.old (spaced numbers.now) self.new }
+    {
+        for number in numbers {
+            self.push(&[b' ']);
+            self.push_decimal(*number);
+        }
+    }
 }

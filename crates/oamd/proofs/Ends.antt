@@ -1,85 +1,64 @@
 -- The ways that decode can end, and what each leaves.
-use Prim.Native.Nat.{ℕ, zero, suc, ◌+◌, ◌*◌, ◌-◌, ◌≤◌, ◌<◌}
-use mathlib.Core.Path.{◌≡◌, refl, sym, ◌∙◌, ap, subst}
-use mathlib.Core.Bool.{true, false, ◌&&◌}
-use mathlib.Core.Logic.{inl}
-use mathlib.Core.List.{List, [], ◌∷◌, ◌++◌, map}
+use Rattle.std.proofs.Common.{◌≡◌, ℕ, zero, suc, ◌+◌, ◌*◌, ◌-◌, ◌≤◌, ◌<◌, refl, sym, ◌∙◌, ap, subst, List, [], ◌∷◌, ◌++◌, map, ℤ, pos, length, get_or, take, drop, replicate, Result, Ok, Err, arith}
 use native.Mathlib.Nat.{suc-mul}
-use native.Mathlib.Omega.{arith}
-use borrow.Author.Tests.{le-leb, lt-leb, leb-true}
-use lib.Dec.{leb}
-use lib.IntN.{ℤ, pos}
-use lib.ListN.{length, get_or, take, drop, replicate, length-replicate, take-append-drop}
+use Rattle.std.proofs.lemmas.List.{length-replicate, take-append-drop}
+use Rattle.std.proofs.lemmas.Bool.{le-leb}
+use Rattle.std.proofs.lemmas.Bool.Decides.{nat_tests}
+use Rattle.bits.specs.Parsed.{Parsed, got, refused}
 use Rattle.bits.specs.Say as bits
-use Rattle.bits.specs.declared.Refusal.{Refusal}
+use Rattle.bits.specs.declared.refusals.Fault.{Fault}
+use Rattle.bits.specs.declared.refusals.Refusal.{Refusal}
 use Rattle.bits.proofs.Always.{All}
 use Rattle.standard.specs.Numbers.{row_width, retained_length, start_length, blocks_length, timings_length, payload_limit}
-use Rattle.standard.specs.Numbers as number
 use Rattle.standard.specs.Tree.{Object, Tree, kinds_of}
 use Rattle.standard.specs.Rows.{Row, State, no_row}
 use Rattle.standard.specs.Meaning.{start_rows, object_rows, all_rows, gain_of, frame_rows, last_rows, retain}
 use Rattle.standard.specs.Syntax.{syntax}
-use Rattle.standard.specs.Tables.{rows_numbers, rows_of, by_block, state_of, in_form}
-use Rattle.standard.specs.Calls.{Lent, over, has_room, unchanged, accept, decline, settle, decode}
-use Rattle.standard.proofs.Small.{and_left, and_right}
+use Rattle.standard.specs.Tables.{rows_numbers, rows_of, by_block, state_of}
+use Rattle.standard.specs.Calls.{Lent, Done, over, has_room, accept, decline, settle, decode}
 use Rattle.standard.proofs.RowsOfFrame.{object-rows-length, frame-rows-length, last-rows-length}
 use Rattle.standard.proofs.Retention.{last-numbers}
 use Rattle.standard.proofs.Counts.{Sized}
+use Rattle.objects.proofs.Parts.{fit}
 use Rattle.rows.proofs.Written.{over-same}
 use Rattle.rows.proofs.Rows.{rows_back}
-use Rattle.objects.proofs.Parts.{fit}
-use Rattle.oamd.specs.Whole.{Whole, payload_in, whole_of}
-use Rattle.oamd.specs.Asked.{Roomy}
-use Rattle.oamd.specs.Reading.{Behind}
-use Rattle.oamd.specs.Telling.{lending, outcome}
-use Rattle.oamd.specs.Ends.{Cleared, last_of, Retainable, Retained}
-use Rattle.oamd.specs.Promises.{lent, Left}
+use Rattle.oamd.specs.Whole.{Whole, Lending, payload_in, whole_of}
+use Rattle.oamd.specs.Ends.{Readable, Unreadable, last_of, Retainable, Retained}
+use Rattle.oamd.specs.Tables.{Kept, Cleared}
+use Rattle.oamd.specs.Telling.{said_whole}
+use Rattle.oamd.specs.Promises.{Left}
 use Rattle.oamd.specs.declared.decoder.Frame.{Frame}
-use Rattle.oamd.specs.declared.decoder.Decoded.TheVariants.{Accepted, Refused, Unread}
-use Rattle.oamd.proofs.Telling.{Tells, refusal-told, sized-tree}
-use Rattle.standard.proofs.Bounds.{bounded}
+use Rattle.oamd.specs.declared.decoder.DecodeError.{DecodeError}
+use Rattle.oamd.specs.declared.decoder.DecodeError.TheVariants.{Refused, Unread}
+use Rattle.oamd.specs.declared.payload.Counts.{Counts}
+use Rattle.oamd.specs.declared.tables.BlockTables.{BlockTables}
+use Rattle.oamd.proofs.Telling.{Tells, frame-told, refusal-told, sized-tree}
 
--- Tests 5, 6 and 7
+-- The tests before the payload
 
-unread : (s : List ℕ) (l : Lent) (n : ℕ) → decode s l ≡ unchanged l n → (number.room ≤ n) × (n ≤ number.size) → Left (decode s l) (Unread n) l.retained l.start l.blocks l.timings
-unread s l n e h = rw e (record { answer = refl; its_case = h; retained = refl; start = refl; blocks = refl; timings = refl })
+pub unread : {s : List ℕ} {l : Lent} {f : Fault} → Unreadable s l f → Left (decode s l) (Err (Unread f)) l.retained l.start l.blocks l.timings
+unread u = rw u.stays (record { answer = refl; its_case = u.few; retained = refl; start = refl; blocks = refl; timings = refl })
 
-module _ (s : List ℕ) (l : Lent) where
-  pub no_room : has_room l ≡ false → Left (decode s l) (Unread number.room) l.retained l.start l.blocks l.timings
+module _ {s : List ℕ} {l : Lent} (r : Readable s l) where
+  taken-up : decode s l ≡ settle l (syntax s)
   unfolding decode
-  no_room e = unread s l number.room (rw e) (omega arith, omega arith)
+  taken-up = rw (r.room, r.form, le-leb (length s) payload_limit r.near) refl
 
-  module _ (room : has_room l ≡ true) where
-    pub no-form : in_form l.retained ≡ false → Left (decode s l) (Unread number.form) l.retained l.start l.blocks l.timings
-    unfolding decode
-    no-form e = unread s l number.form (rw (room, e)) (omega arith, omega arith)
+  pub room-retained : retained_length ≤ length l.retained
+  unfolding has_room
+  room-retained = let h = r.room in grind (arith, nat_tests)
 
-    module _ (form : in_form l.retained ≡ true) where
-      pub no_size : payload_limit < length s → Left (decode s l) (Unread number.size) l.retained l.start l.blocks l.timings
-      unfolding decode
-      no_size h = unread s l number.size (rw (room, form, lt-leb (length s) payload_limit h)) (omega arith, omega arith)
+  pub room-start : start_length ≤ length l.start
+  unfolding has_room
+  room-start = let h = r.room in grind (arith, nat_tests)
 
-      pub taken-up : length s ≤ payload_limit → decode s l ≡ settle l (syntax s)
-      unfolding decode
-      taken-up h = rw (room, form, le-leb (length s) payload_limit h)
+  pub room-blocks : blocks_length ≤ length l.blocks
+  unfolding has_room
+  room-blocks = let h = r.room in grind (arith, nat_tests)
 
--- the lengths, once there is room
-pub room-retained : (l : Lent) → has_room l ≡ true → retained_length ≤ length l.retained
-unfolding has_room
-room-retained l h =
-    leb-true retained_length (length l.retained) (and_left _ _ (and_left _ _ (and_left _ (leb timings_length (length l.timings)) h)))
-
-pub room-frame : (l : Lent) → has_room l ≡ true → Roomy l.start l.blocks l.timings
-unfolding has_room
-room-frame l h =
-    let one = leb retained_length (length l.retained) in
-    let two = one && leb start_length (length l.start) in
-    let three = two && leb blocks_length (length l.blocks) in
-    record {
-      for_start = leb-true start_length (length l.start) (and_right one _ (and_left two _ (and_left three _ h)));
-      for_blocks = leb-true blocks_length (length l.blocks) (and_right two _ (and_left three _ h));
-      for_timings = leb-true timings_length (length l.timings) (and_right three _ h);
-    }
+  pub room-timings : timings_length ≤ length l.timings
+  unfolding has_room
+  room-timings = let h = r.room in grind (arith, nat_tests)
 
 -- The last block, as it lies in the table
 
@@ -115,29 +94,42 @@ last-rows st t b z =
     rows_taken n (last_rows st t) (drop ((m - 1) * n * row_width) (over written b)) (last-rows-length st t)
     (rw (frame-rows-length st t, ← e) at (last-numbers (m - 1) (frame_rows st t) (drop (length written) b) full))
 
--- The payload was read: a frame
+-- The payload was read
 
-module _ (s : List ℕ) (r st b : List ℤ) (ti : List ℕ) (few : length s ≤ payload_limit) (w : Whole) (tells : Tells (state_of r) (lending st b ti) s w) where
-  pub retainable : retained_length ≤ length r → blocks_length ≤ length w.blocks → Retainable w.objects w.count r w.blocks
+abbrev pub lends : Lent → Lending
+lends l = record { start = l.start; blocks = l.blocks; timings = l.timings }
+
+-- as a whole, from its first bit
+abbrev pub read_of : List ℕ → Lent → Parsed Whole
+read_of s l = payload_in (state_of l.retained) (lends l) s (length s * 8) 0
+
+module _ {s : List ℕ} {l : Lent} (read : Readable s l) (counts : Counts) (s' : List ℤ) (b : BlockTables) {p : ℕ} (there : got (said_whole s' b counts) p ≡ read_of s l) where
+  told : Tells (state_of l.retained) (lends l) s (said_whole s' b counts)
+  told = frame-told (state_of l.retained) (lends l) s there
+
+  pub retainable : Retainable counts l.retained b.blocks.now
   unfolding whole_of
-  retainable long room =
-      let z = sized-tree s few tells.said in
-      let n = ap (λ (v : Whole). v.objects) tells.leaves in
-      let m = ap (λ (v : Whole). v.count) tells.leaves in
-      let f = fit w.count w.objects (omega (arith, z.blocks, m)) (omega (arith, z.objects, n)) in
-      record { few = omega (arith, z.objects, n); some = omega (arith, z.first, m); long = long; there = omega arith }
+  retainable =
+      let t = told in
+      let z = sized-tree s read.near t.said in
+      let n = ap (λ (v : Whole). v.objects) t.leaves in
+      let m = ap (λ (v : Whole). v.count) t.leaves in
+      let f = fit counts.blocks counts.objects (omega (arith, z.blocks, m)) (omega (arith, z.objects, n)) in
+      let room = b.for_blocks in
+      record { few = omega (arith, z.objects, n); some = omega (arith, z.first, m); long = room-retained read; there = omega arith }
 
-  pub accepted : {f : Frame} {r' : List ℤ} → Retained w.objects w.count w.blocks f r r'
-      → Left (settle (lent r st b ti) (syntax s)) (Accepted f) r' w.start w.blocks w.timings
-  unfolding settle whole_of accept retain
-  accepted {f} {r'} k = rw tells.said (subst (λ (v : Whole). Retained v.objects v.count v.blocks f r r' → Left (accept (lent r st b ti) (state_of r) tells.tree) (Accepted f) r' v.start v.blocks v.timings) tells.leaves go k)
+  kept_by : Whole → Frame → List ℤ → Type 0
+  kept_by v f r' = Retained (record { objects = v.objects; blocks = v.count }) v.blocks f l.retained r' → Left (accept l (state_of l.retained) told.tree) (Ok f) r' v.start v.blocks v.timings
+
+  pub accepted : {f : Frame} {r' : List ℤ} → Retained counts b.blocks.now f l.retained r' → Left (decode s l) (Ok f) r' s' b.blocks.now b.timings.now
+  unfolding settle whole_of accept retain kept_by
+  accepted {f} {r'} k = rw (taken-up read, told.said) (subst (λ v. kept_by v f r') told.leaves go k)
     where
-      go : let v = whole_of (state_of r) (lending st b ti) tells.tree in
-          Retained v.objects v.count v.blocks f r r' → Left (accept (lent r st b ti) (state_of r) tells.tree) (Accepted f) r' v.start v.blocks v.timings
+      go : kept_by (whole_of (state_of l.retained) (lends l) told.tree) f r'
       go h =
-          let last = last-rows (state_of r) tells.tree b (sized-tree s few tells.said) in
+          let last = last-rows (state_of l.retained) told.tree l.blocks (sized-tree s read.near told.said) in
           record {
-            answer = rw (h.counts, last);
+            answer = rw (h.counts, last) refl;
             its_case = tt;
             retained = rw last at h.kept;
             start = refl;
@@ -150,18 +142,20 @@ module _ (s : List ℕ) (r st b : List ℤ) (ti : List ℕ) (few : length s ≤ 
 cleared-same : {A : Type 0} (a : A) (n : ℕ) (l m : List A) → drop n l ≡ drop n m → over (replicate n a) l ≡ over (replicate n a) m
 cleared-same a n l m e = over-same (replicate n a) l m n (length-replicate n a) e
 
-module _ (s : List ℕ) (l : Lent) (z : Refusal) where
-  pub declined : outcome (payload_in (state_of l.retained) (lending l.start l.blocks l.timings) s (length s * 8) 0) ≡ inl (bits.refusal z)
-      → {s' s'' b' b'' : List ℤ} {t' t'' : List ℕ} → drop start_length s' ≡ drop start_length l.start → Behind l.blocks b' l.timings t'
-      → Cleared s' s'' b' b'' t' t'' → Left (settle l (syntax s)) (Refused z) l.retained s'' b'' t''
+module _ {s : List ℕ} {l : Lent} (read : Readable s l) {z : Refusal} (there : refused (bits.refusal z) ≡ read_of s l) where
+  pub declined : (s' : List ℤ) {a b d : BlockTables} → drop start_length s' ≡ drop start_length l.start → a.blocks.now ≡ l.blocks → a.timings.now ≡ l.timings → Kept a b → Cleared b d
+      → Left (decode s l) (Err (Refused z)) l.retained (over (replicate start_length (pos 0)) s') d.blocks.now d.timings.now
   unfolding settle decline
-  declined e {s'} {b' = b'} {t' = t'} rest behind c =
-      let f = refusal-told (state_of l.retained) (lending l.start l.blocks l.timings) s e in
-      rw f (record {
+  declined s' {b = b} rest eb et k c =
+      rw (taken-up read, refusal-told (state_of l.retained) (lends l) s there) (record {
         answer = refl;
-        its_case = ((bounded s f).above, (bounded s f).below);
+        its_case = tt;
         retained = refl;
-        start = c.its_start ∙ cleared-same (pos 0) start_length s' l.start rest;
-        blocks = c.its_blocks ∙ cleared-same (pos 0) blocks_length b' l.blocks behind.blocks_rest;
-        timings = c.its_timings ∙ cleared-same 0 timings_length t' l.timings behind.timings_rest;
+        start = cleared-same (pos 0) start_length s' l.start rest;
+        blocks = c.its_blocks ∙ cleared-same (pos 0) blocks_length b.blocks.now l.blocks (k.blocks_rest ∙ ap (drop blocks_length) eb);
+        timings = c.its_timings ∙ cleared-same 0 timings_length b.timings.now l.timings (k.timings_rest ∙ ap (drop timings_length) et);
       })
+
+-- what the caller finds in its tables
+pub settled : {d : Done} {a : Result Frame DecodeError} {r s b : List ℤ} {t : List ℕ} (f : BlockTables) → b ≡ f.blocks.now → t ≡ f.timings.now → Left d a r s f.blocks.now f.timings.now → Left d a r s b t
+settled f e g h = rw (e, g) h

@@ -1,11 +1,10 @@
+pub mod StartRows
+pub mod HeldRows
+pub mod Framing
+pub mod Inside
+pub mod Starting
 pub mod FrameBridge
 pub mod Whole
-pub mod ElementsFraming
-pub mod ElementsTurns
-pub mod Counting
-pub mod StartRows
-pub mod Matching
-pub mod Starting
 pub mod Telling
 pub mod Ends
 pub mod Determined

@@ -1,10 +1,10 @@
 pub mod Head
 pub mod Frame
-pub mod Whole
-pub mod Trim
 pub mod Say
-pub mod Reading
 pub mod Asked
+pub mod Tables
+pub mod Reading
+pub mod Whole
 pub mod Telling
 pub mod Ends
 pub mod Promises

@@ -47,6 +47,10 @@ body_in st l kinds = do
   f ← elements_in (start_rows st kinds) n alternated kinds (record { found = none; blocks = l.blocks; timings = l.timings })
   finish_in (length kinds) (over (rows_numbers (start_rows st kinds)) l.start) f
 
+-- what follows the object count
+unfoldable pub program_in : State → Lending → ℕ → Parser Whole
+program_in st l n = assignment n >>= body_in st l
+
 unfoldable pub payload_in : State → Lending → Parser Whole
 payload_in st l = do
   version

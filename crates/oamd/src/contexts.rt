@@ -1,4 +1,5 @@
 // The contexts of this crate's refusals, by the numbers of docs/CONTEXTS.md.
+// They are numbers and no enum: the reads of `bits` hand a context on, and know no syntax.
 pub const ALTERNATE_OBJECT_DATA_FLAG: u8 = 5;
 
 pub const ELEMENT_COUNT: u8 = 6;

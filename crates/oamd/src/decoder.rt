@@ -1,95 +1,118 @@
 // The call over four lent tables: it reads a payload, writes its frame, and retains the last block.
 ghost use Rattle.std.specs.Prelude.{◌≡◌};
 ghost use Rattle.standard.specs.Calls as calls;
-ghost use Rattle.oamd.specs.Asked.{Roomy};
-ghost use Rattle.oamd.specs.Ends.{Cleared, Retainable, Retained};
+ghost use Rattle.oamd.specs.Ends.{Tested, Retainable, Retained};
 ghost use Rattle.oamd.specs.Promises.{Left, lent};
+ghost use Rattle.oamd.specs.declared.decoder.DecodeError.TheVariants.{Refused, Unread};
 
-use crate::payload::{Payload, parse_payload};
+use crate::payload::{Counts, parse_payload};
+use crate::tables::{BlockTables, Held};
 use crate::unsettled::count_unsettled;
-use bits::Refusal;
+use bits::{BitCursor, BitPlace, ByteCount, Fault, Refusal};
 use rows::form::in_form;
 use rows::numbers::{
-    BLOCKS_LENGTH, FORM, PAYLOAD_LIMIT, RETAINED_LENGTH, ROOM, ROW_WIDTH, SIZE, START_LENGTH,
-    TIMINGS_LENGTH,
+    BLOCKS_LENGTH, PAYLOAD_LIMIT, RETAINED_LENGTH, ROW_WIDTH, START_LENGTH, TIMINGS_LENGTH,
 };
 use rows::retained::keep_rows;
-use rows::table::{clear, clear_timings};
 
-#[derive(Clone, Copy)]
+#[derive(Clone, Copy, PartialEq, Eq)]
 pub struct Frame {
     pub objects: u32,
     pub blocks: u32,
     pub unsettled: u32,
 }
 
-// A refusal of the payload stands at a place of it; a number alone says why it was not read.
-#[derive(Clone, Copy)]
-pub enum Decoded {
-    Accepted(Frame),
+// A refusal of the payload stands at a place of it; a fault says why it was not read.
+#[derive(Clone, Copy, PartialEq, Eq)]
+pub enum DecodeError {
     Refused(Refusal),
-    Unread(u32),
+    Unread(Fault),
 }
 
+impl From<Refusal> for DecodeError {
+    ghost from_gives = { λ refusal error. error ≡ Refused refusal };
+
+    fn from(refusal: Refusal) -> DecodeError {
+        DecodeError::Refused(refusal)
+    }
+}
+
+impl From<Fault> for DecodeError {
+    ghost from_gives = { λ fault error. error ≡ Unread fault };
+
+    fn from(fault: Fault) -> DecodeError {
+        DecodeError::Unread(fault)
+    }
+}
+
+// Four slices, since C lends four tables.
 pub fn decode(
     payload: &[u8],
     retained: &mut [i16],
     start: &mut [i16],
     blocks: &mut [i16],
     timings: &mut [u16],
-) -> Decoded
+) -> Result<Frame, DecodeError>
     ensures { Left (calls.decode payload.now (lent retained.old start.old blocks.old timings.old)) result retained.new start.new blocks.new timings.new }
 {
-    if !has_room(retained, start, blocks, timings) {
-        return Decoded::Unread(ROOM);
+    test(payload, retained, start, blocks, timings)?;
+    let mut tables = BlockTables {
+        blocks,
+        timings,
+        found: None,
+    };
+    let held = Held { table: retained };
+    let limit = ByteCount(payload.len()).bits();
+    let mut bits = BitCursor::new(payload, limit, BitPlace(0));
+    match parse_payload(&mut bits, held, start, &mut tables) {
+        Ok(counts) => Ok(retain(retained, &tables, counts)),
+        Err(refusal) => {
+            start[..START_LENGTH].fill(0);
+            tables.clear();
+            Err(refusal.into())
+        }
+    }
+}
+
+// Room comes before form, and form before size.
+#[tactic(auto, using(std::proofs::lemmas::Bool::Decides::nat_tests), unfolding(standard::specs::Calls::decode, standard::specs::Calls::has_room, standard::specs::Numbers::retained_length, standard::specs::Numbers::start_length, standard::specs::Numbers::blocks_length, standard::specs::Numbers::timings_length, standard::specs::Numbers::payload_limit))]
+fn test(
+    payload: &[u8],
+    retained: &[i16],
+    start: &[i16],
+    blocks: &[i16],
+    timings: &[u16],
+) -> Result<(), Fault>
+    ensures { Tested payload.now (lent retained.now start.now blocks.now timings.now) result }
+{
+    if retained.len() < RETAINED_LENGTH
+        || start.len() < START_LENGTH
+        || blocks.len() < BLOCKS_LENGTH
+        || timings.len() < TIMINGS_LENGTH
+    {
+        return Err(Fault::Room);
     }
     if !in_form(retained) {
-        return Decoded::Unread(FORM);
+        return Err(Fault::Form);
     }
     if payload.len() > PAYLOAD_LIMIT {
-        return Decoded::Unread(SIZE);
+        return Err(Fault::Size);
     }
-    match parse_payload(payload, retained, start, blocks, timings) {
-        Payload::Refused(refusal) => {
-            clear_frame(start, blocks, timings);
-            Decoded::Refused(refusal)
-        }
-        Payload::Frame(object_count, block_count) => {
-            Decoded::Accepted(retain(retained, blocks, object_count, block_count))
-        }
-    }
-}
-
-fn has_room(retained: &[i16], start: &[i16], blocks: &[i16], timings: &[u16]) -> bool
-    ensures { result ≡ calls.has_room (lent retained.now start.now blocks.now timings.now) }
-{
-    (RETAINED_LENGTH <= retained.len())
-        & (START_LENGTH <= start.len())
-        & (BLOCKS_LENGTH <= blocks.len())
-        & (TIMINGS_LENGTH <= timings.len())
-}
-
-// The needed lengths alone: what lies behind them stays.
-fn clear_frame(start: &mut [i16], blocks: &mut [i16], timings: &mut [u16])
-    requires { Roomy start.old blocks.old timings.old }
-    ensures { Cleared start.old start.new blocks.old blocks.new timings.old timings.new }
-{
-    clear(start, START_LENGTH);
-    clear(blocks, BLOCKS_LENGTH);
-    clear_timings(timings, TIMINGS_LENGTH);
+    Ok(())
 }
 
 // The last block is kept for the next payload.
-fn retain(retained: &mut [i16], blocks: &[i16], object_count: u32, block_count: u32) -> Frame
-    requires { Retainable object_count block_count retained.old blocks.now }
-    ensures { Retained object_count block_count blocks.now result retained.old retained.new }
+#[tactic(auto, unfolding(standard::specs::Numbers::row_width))]
+fn retain(retained: &mut [i16], tables: &BlockTables, counts: Counts) -> Frame
+    requires { Retainable counts retained.old tables.now.blocks.now }
+    ensures { Retained counts tables.now.blocks.now result retained.old retained.new }
 {
-    let count = object_count as usize;
-    let from = (block_count as usize - 1) * count * ROW_WIDTH;
-    keep_rows(retained, blocks, from, count);
+    let count = counts.objects as usize;
+    let from = (counts.blocks as usize - 1) * count * ROW_WIDTH;
+    keep_rows(retained, tables.blocks, from, count);
     Frame {
-        objects: object_count,
-        blocks: block_count,
-        unsettled: count_unsettled(blocks, from, count),
+        objects: counts.objects,
+        blocks: counts.blocks,
+        unsettled: count_unsettled(tables.blocks, from, count),
     }
 }

@@ -1,52 +1,45 @@
 // The elements of a payload, one after the other.
-ghost use Rattle.std.specs.Prelude.{map, ◌<◌, ◌^◌, length};
-ghost use Rattle.std.proofs.Math.Option.{none};
-ghost use Rattle.standard.specs.Tables.{rows_of};
-ghost use Rattle.rows.specs.Kinds.{kind_of};
-ghost use Rattle.objects.specs.Element.{Room};
-ghost use Rattle.oamd.specs.Frame.{elements_in};
-ghost use Rattle.oamd.specs.Reading.{Framing, lent_frame};
-ghost use Rattle.oamd.specs.Say.{said_elements};
+ghost use Rattle.oamd.specs.Frame.{element_in, elements_in};
+ghost use Rattle.oamd.specs.Reading.{Framing};
+ghost use Rattle.oamd.specs.Say.{said_frame, said_kinds, starts_of};
 
-use crate::content::{Elements, Found, parse_content};
-use crate::element::{ReadHead, read_element_head};
-use bits::BitPlace;
-
-// How many elements there are, where the first begins, and whether each has alternate data.
-#[derive(Clone, Copy)]
-pub struct ElementList {
-    pub count: u32,
-    pub first: BitPlace,
-    pub alternate_data: bool,
-}
+use crate::content::parse_content;
+use crate::contexts;
+use crate::element::{parse_alternate_data, read_element_end};
+use crate::tables::{BlockTables, Objects};
+use bits::{BitCursor, Refusal};
 
 pub fn parse_elements(
-    payload: &[u8],
-    limit: BitPlace,
-    list: ElementList,
-    kinds: &[i16],
-    start: &[i16],
-    blocks: &mut [i16],
-    timings: &mut [u16],
-) -> Elements
-    requires { (limit.0 < 2 ^ 32) × Room (length kinds.now) start.now blocks.old timings.old }
-    ensures { Framing (elements_in (rows_of (length kinds.now) start.now) list.count list.alternate_data (map kind_of kinds.now) (lent_frame none blocks.old timings.old) payload.now limit.0 list.first.0) (said_elements result) blocks.old blocks.new timings.old timings.new }
+    bits: &mut BitCursor,
+    count: u32,
+    alternate_data: bool,
+    objects: Objects,
+    tables: &mut BlockTables,
+) -> Result<(), Refusal>
+    ensures { Framing (elements_in (starts_of objects.entry) count alternate_data (said_kinds objects.entry) (said_frame tables.old)) bits.old tables.old result bits.new tables.new }
 {
-    let mut found = Found::Nothing;
-    let mut place = list.first;
-    for _ in 0..list.count {
-        match read_element_head(payload, limit, place, list.alternate_data) {
-            ReadHead::Refused(refusal) => return Elements::Refused(refusal),
-            ReadHead::Is(head) => {
-                match parse_content(payload, head, kinds, start, found, blocks, timings) {
-                    Elements::Refused(refusal) => return Elements::Refused(refusal),
-                    Elements::Read(now_found, _) => {
-                        found = now_found;
-                        place = head.end;
-                    }
-                }
-            }
-        }
+    for _element in 0..count {
+        parse_element(bits, alternate_data, objects, tables)?;
     }
-    Elements::Read(found, place)
+    Ok(())
+}
+
+// The reads inside an element end with it, and after it the payload goes on there.
+fn parse_element(
+    bits: &mut BitCursor,
+    alternate_data: bool,
+    objects: Objects,
+    tables: &mut BlockTables,
+) -> Result<(), Refusal>
+    ensures { Framing (element_in (starts_of objects.entry) alternate_data (said_kinds objects.entry) (said_frame tables.old)) bits.old tables.old result bits.new tables.new }
+{
+    let at = bits.position;
+    let id = bits.read(4, contexts::ELEMENT_ID)?;
+    let end = read_element_end(bits)?;
+    let mut element = BitCursor::new(bits.payload, end, bits.position);
+    parse_alternate_data(&mut element, alternate_data)?;
+    let _discard_unknown = element.read_flag(contexts::DISCARD_UNKNOWN_ELEMENT_FLAG)?;
+    parse_content(&mut element, id, at, objects, tables)?;
+    bits.position = end;
+    Ok(())
 }

@@ -9,7 +9,8 @@ mod elements;
 pub mod hold;
 mod payload;
 mod starts;
+mod tables;
 mod trim;
 mod unsettled;
 
-pub use decoder::{Decoded, Frame, decode};
+pub use decoder::{DecodeError, Frame, decode};

@@ -1,27 +1,27 @@
 // How many objects of the last block are unsettled.
-ghost use Rattle.std.specs.Prelude.{◌≡◌, cond, ◌+◌, ◌*◌, ◌≤◌, length, drop};
+ghost use Rattle.std.specs.Prelude.{◌≡◌, ◌+◌, ◌*◌, ◌≤◌, length, drop, not};
 ghost use Rattle.standard.specs.Numbers.{row_width, object_limit};
 ghost use Rattle.standard.specs.Marks.{is_settled};
 ghost use Rattle.standard.specs.Meaning.{unsettled_count};
-ghost use Rattle.standard.specs.Tables.{rows_of};
+ghost use Rattle.standard.specs.Tables.{row_of, rows_of};
 
-use rows::numbers::{ROW_WIDTH, SETTLED};
-use rows::table::mark_at;
+use rows::numbers::{MARK, ROW_WIDTH, SETTLED};
+use rows::table::parts;
 
+// A row with any group unsettled counts.
 pub fn count_unsettled(blocks: &[i16], from: usize, count: usize) -> u32
     requires { (count ≤ object_limit) × (from + count * row_width ≤ length blocks.now) }
     ensures { result ≡ unsettled_count (rows_of count (drop from blocks.now)) }
 {
-    let mut unsettled = 0;
-    for object in 0..count {
-        let mark = mark_at(blocks, from + object * ROW_WIDTH);
-        unsettled += one_if_unsettled(mark);
-    }
-    unsettled
+    parts(&blocks[from..], count)
+        .iter()
+        .filter(|part| is_unsettled(part))
+        .count() as u32
 }
 
-fn one_if_unsettled(mark: i16) -> u32
-    ensures { (result ≡ cond (is_settled mark) 0 1) × (result ≤ 1) }
+#[tactic(auto, unfolding(standard::specs::Tables::row_of))]
+fn is_unsettled(part: &[i16; ROW_WIDTH]) -> bool
+    ensures { result ≡ not (is_settled (row_of part.now).mark) }
 {
-    if mark == SETTLED { 0 } else { 1 }
+    part[MARK] != SETTLED
 }

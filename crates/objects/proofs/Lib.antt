@@ -1,9 +1,9 @@
+pub mod Filling
 pub mod Places
 pub mod Columns
 pub mod Bridge
-pub mod Transposed
-pub mod Walked
-pub mod Filling
-pub mod Timed
-pub mod Turns
 pub mod Parts
+pub mod Timed
+pub mod Transposed
+pub mod Turns
+pub mod Walked

@@ -1,40 +1,34 @@
 -- The object element in two parts: what stands before the objects, and the objects.
-use Prim.Native.Nat.{ℕ, zero, suc, ◌+◌, ◌*◌, ◌-◌, ◌<◌, ◌≤◌}
-use mathlib.Core.Path.{◌≡◌, sym, ◌∙◌, ap}
-use mathlib.Core.List.{List, []}
+use Rattle.std.proofs.Common.{◌≡◌, ℕ, zero, suc, ◌+◌, ◌*◌, ◌-◌, ◌<◌, ◌≤◌, List, [], length, ℤ, Result, Ok, Err, refl, sym, ◌∙◌, ap, arith}
 use native.Mathlib.Nat.{mul-le-mul_right}
-use native.Mathlib.Omega.{arith}
-use lib.IntN.{ℤ}
-use lib.ListN.{length, drop}
-use Rattle.bits.specs.Parsed.{Parsed, got, refused, and_then, map_parsed, ◌>>=◌, ◌>>◌, map_p, pure, times, each}
+use Rattle.bits.specs.Parsed.{Parsed, Parser, got, refused, and_then, map_parsed, ◌>>=◌, ◌>>◌, map_p, pure, times, each}
 use Rattle.bits.specs.Reads.{read}
-use Rattle.bits.specs.declared.Passed.{Passed}
-use Rattle.bits.proofs.Always.{Always, after, bind, next, given, mapped-such}
+use Rattle.bits.specs.Say.{refusal, said_by, ReadsAs}
+use Rattle.bits.specs.declared.cursor.BitCursor.{BitCursor}
+use Rattle.bits.specs.declared.refusals.Refusal.{Refusal}
+use Rattle.bits.proofs.Always.{Always, after, bind, next, given, mapped-such, times-length}
 use Rattle.bits.proofs.ParsedLaws.{then-got, map-then, then_map, map-map, then-then, then-pure, then-such}
 use Rattle.bits.proofs.Fields.{read-lt}
 use Rattle.standard.specs.Contexts as context
 use Rattle.standard.specs.Numbers.{row_width, object_limit, block_limit, blocks_length, timings_length}
 use Rattle.standard.specs.Tree.{Kind, Timing, Tree}
 use Rattle.standard.specs.Updates.{object}
-use Rattle.standard.specs.Syntax.{sample_offset, timing, reserved, object_element}
 use Rattle.standard.specs.Rows.{Row}
 use Rattle.standard.specs.Meaning.{all_rows}
+use Rattle.standard.specs.Syntax.{sample_offset, timing, reserved, object_element}
 use Rattle.standard.specs.Tables.{timing_numbers, rows_numbers, rows_of, by_block}
 use Rattle.standard.specs.Calls.{over}
-use Rattle.objects.specs.Fills.{Filling, leaving, Fills}
 use Rattle.objects.specs.Walk.{objects_from}
-use Rattle.objects.specs.Element.{block_timings, timed_by, said_element, timings_after, blocks_after, ReadElement}
-use Rattle.objects.specs.declared.Element.{Element}
-use Rattle.objects.proofs.Filling.{to, behind}
-use Rattle.bits.proofs.Always.{times-length}
+use Rattle.objects.specs.Element.{Timed, block_timings, timed_by, timings_after, blocks_after, ReadElement}
+use Rattle.objects.specs.Fills.{Filled}
 use Rattle.objects.proofs.Walked.{walk_is}
 
 -- How many blocks
 
-abbrev Few : List Timing → Type 0
+abbrev pub Few : List Timing → Type 0
 Few ts = (0 < length ts) × (length ts ≤ block_limit)
 
-few-blocks : Always Few block_timings
+pub few-blocks : Always Few block_timings
 unfolding block_timings block_limit
 few-blocks =
     after _ _ λ offset. bind _ (read-lt 3 _) λ m h. bind _ (times-length (m + 1) _) λ ts l. next _ (given _ (omega arith, omega arith))
@@ -47,6 +41,27 @@ pub fit : (m n : ℕ) → m ≤ block_limit → n ≤ object_limit → m * n * r
 unfolding block_limit object_limit row_width blocks_length
 fit m n h k = let l : m * n ≤ block_limit * n = mul-le-mul_right n h in omega arith
 
+-- What stands before the objects, with its table
+
+unfoldable pub head : List ℕ → Parser Timed
+head t = do
+  offset ← sample_offset
+  m ← read 3 context.update-block-count
+  t' ← map_p (λ ts. over (timing_numbers ts) t) (times (m + 1) (timing offset))
+  reserved >>= λ u. pure (record { count = m + 1; table = t' })
+
+pub head_read : (t : List ℕ) (s : List ℕ) (e p : ℕ) → map_p (timed_by t) block_timings s e p ≡ head t s e p
+unfolding block_timings head ◌>>=◌ ◌>>◌ pure map_p
+head_read t s e p =
+    then_map (sample_offset s e p) _ _ ∙ then-got (sample_offset s e p) _ _ (λ offset q.
+    then_map (read 3 _ s e q) _ _ ∙ then-got (read 3 _ s e q) _ _ (λ m q.
+    let x = times (m + 1) (timing offset) s e q in
+    then_map x _ _
+    ∙ then-such _ x _ _ ((times-length (m + 1) (timing offset)).ok s e q) (λ ts q l. then_map (reserved s e q) _ _ ∙ rw l)
+    ∙ sym (map-then x _ _)))
+
+-- The whole element
+
 -- the number of an element's blocks, and the two tables as they are left
 pub data Left : Type 0 where
   left : ℕ → List ℕ → List ℤ → Left
@@ -55,19 +70,6 @@ abbrev pub left_by : List Row → List ℕ → List ℤ → Tree → Left
 left_by starts timings blocks t = left (length t.timings) (timings_after t timings) (blocks_after starts t blocks)
 
 module _ (s : List ℕ) (e : ℕ) where
-  pub head_read : (t : List ℕ) (p : ℕ) → map_parsed (timed_by t) (block_timings s e p)
-      ≡ and_then (sample_offset s e p) (λ offset q. and_then (read 3 context.update-block-count s e q) (λ m q.
-      and_then (map_parsed (λ ts. over (timing_numbers ts) t) (times (m + 1) (timing offset) s e q)) (λ t' q.
-      and_then (reserved s e q) (λ u q. got (record { count = m + 1; table = t' }) q))))
-  unfolding block_timings ◌>>=◌ ◌>>◌ pure
-  head_read t p =
-      then_map (sample_offset s e p) _ _ ∙ then-got (sample_offset s e p) _ _ (λ offset q.
-      then_map (read 3 _ s e q) _ _ ∙ then-got (read 3 _ s e q) _ _ (λ m q.
-      let x = times (m + 1) (timing offset) s e q in
-      then_map x _ _
-      ∙ then-such _ x _ _ ((times-length (m + 1) (timing offset)).ok s e q) (λ ts q l. then_map (reserved s e q) _ _ ∙ rw l)
-      ∙ sym (map-then x _ _)))
-
   element-split : (ks : List Kind) (p : ℕ) → object_element ks s e p
       ≡ and_then (block_timings s e p) (λ ts q. map_parsed (λ os. record { timings = ts; objects = os }) (each (object (length ts - 1)) ks s e q))
   unfolding object_element block_timings ◌>>=◌ ◌>>◌ pure
@@ -89,8 +91,9 @@ module _ (s : List ℕ) (e : ℕ) where
 
   -- what is read of the objects, over the table of block rows
   pub element-read : (n : ℕ) (ks : List Kind) (start blocks : List ℤ) (timings : List ℕ) (p : ℕ) → length ks ≡ n → n ≤ object_limit → blocks_length ≤ length blocks
-      → map_parsed (left_by (rows_of n start) timings blocks) (object_element ks s e p)
-      ≡ and_then (map_parsed (timed_by timings) (block_timings s e p)) (λ h q. map_parsed (left h.count h.table) (objects_from n h.count start 0 ks blocks s e q))
+      → map_p (left_by (rows_of n start) timings blocks) (object_element ks) s e p
+      ≡ (map_p (timed_by timings) block_timings >>= λ h. map_p (left h.count h.table) (objects_from n h.count start 0 ks blocks)) s e p
+  unfolding map_p ◌>>=◌
   element-read n ks start blocks timings p l k u =
       ap (map_parsed (left_by (rows_of n start) timings blocks)) (element-split ks p)
       ∙ then_map (block_timings s e p) _ _
@@ -100,10 +103,6 @@ module _ (s : List ℕ) (e : ℕ) where
       ∙ sym (ap (map_parsed _) (walked n start ks blocks q (length ts) h.0 l (omega arith)) ∙ map-map (each (object (length ts - 1)) ks s e q) _ _))
       ∙ sym (map-then (block_timings s e p) _ _)
 
--- what a call says that read to the end
-abbrev left_as : List ℕ → List ℤ → Element → Parsed Left
-left_as timings blocks r = map_parsed (λ n. left n timings blocks) (said_element r)
-
 module _ (f : Tree → ℕ) (g : Tree → List ℕ) (h : Tree → List ℤ) (timings : List ℕ) (blocks : List ℤ) where
   tables : (m : Parsed Tree) (a : Parsed ℕ) → map_parsed (λ t. left (f t) (g t) (h t)) m ≡ map_parsed (λ n. left n timings blocks) a
       → (a ≡ map_parsed f m) × ((t : Tree) (q : ℕ) → m ≡ got t q → (timings ≡ g t) × (blocks ≡ h t))
@@ -112,25 +111,20 @@ module _ (f : Tree → ℕ) (g : Tree → List ℕ) (h : Tree → List ℤ) (tim
   tables (refused z) (got n q') e = let i : ◌≡◌ {A = ℕ} 0 1 = cc in absurd (omega arith)
   tables (refused z) (refused z') e = (cc, λ t q x. let i : ◌≡◌ {A = ℕ} 0 1 = cc in absurd (omega arith))
 
-pub element-left : {m : Parsed Tree} (starts : List Row) (r : Element) {timings timings' : List ℕ} {blocks blocks' : List ℤ}
-    → Filling timings_length (map_parsed (left_by starts timings blocks) m) timings (left_as timings' blocks' r) timings'
-    → length blocks' ≡ length blocks → drop blocks_length blocks' ≡ drop blocks_length blocks → ReadElement m starts r blocks blocks' timings timings'
-element-left {m} starts r {timings} {timings'} {blocks} {blocks'} h l d =
-    let k = tables _ _ _ timings' blocks' m (said_element r) h.same in
+pub element-left : {ks : List Kind} {starts : List Row} {c c' : BitCursor} (r : Result ℕ Refusal) {timings timings' : List ℕ} {blocks blocks' : List ℤ}
+    → ReadsAs (λ n. left n timings' blocks') (map_p (left_by starts timings blocks) (object_element ks)) c r c'
+    → Filled blocks_length blocks blocks' → Filled timings_length timings timings' → ReadElement ks starts c r c' blocks blocks' timings timings'
+unfolding map_p
+element-left {ks} {starts} {c} {c'} r {timings} {timings'} {blocks} {blocks'} h b t =
+    let k = tables _ _ _ timings' blocks' (object_element ks c.payload.now c.limit.0 c.position.0) (said_by (λ n. n) refusal r c'.position.0) (sym (same r ∙ h.answer)) in
     record {
-      answered = k.0;
+      reads = record { answer = k.0; bytes = h.bytes; end = h.end };
       its_blocks = λ t q e. (k.1 t q e).1;
       its_timings = λ t q e. (k.1 t q e).0;
-      blocks_long = l;
-      blocks_rest = d;
-      timings_long = h.long;
-      timings_rest = h.rest;
+      its_table = b;
+      timed = t;
     }
-
--- the objects were read into their table, or refused
-pub objects-left : {N : ℕ} {m : Parsed Tree} {x : Parsed (List ℤ)} {y y' : Passed} (starts : List Row) (r : Element) (c : ℕ) {timings timings' : List ℕ} {blocks blocks' : List ℤ}
-    → Filling timings_length (map_parsed (left_by starts timings blocks) m) timings (map_parsed (left c timings') x) timings'
-    → Fills N x blocks y blocks' → N ≤ blocks_length → y ≡ y' → map_parsed (left c timings') (leaving blocks' y') ≡ left_as timings' blocks' r
-    → ReadElement m starts r blocks blocks' timings timings'
-objects-left starts r c {timings' = timings'} {blocks' = blocks'} h g l e f =
-    element-left starts r (to h (ap (map_parsed (left c timings')) (g.same ∙ ap (leaving blocks') e) ∙ f)) g.long (behind _ _ _ _ l g.rest)
+  where
+    same : (r : Result ℕ Refusal) → map_parsed (λ n. left n timings' blocks') (said_by (λ n. n) refusal r c'.position.0) ≡ said_by (λ n. left n timings' blocks') refusal r c'.position.0
+    same (Ok n) = refl
+    same (Err e) = refl

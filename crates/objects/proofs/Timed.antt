@@ -1,13 +1,8 @@
 -- The timings, read one after the other and each stored where it was read.
-use Prim.Native.Nat.{ℕ, suc, ◌+◌, ◌*◌, ◌-◌, ◌≤◌, ◌<◌}
-use mathlib.Core.Path.{◌≡◌, refl, sym, ◌∙◌, ap}
-use mathlib.Core.List.{List, [], ◌∷◌}
-use native.Mathlib.Numerals.{add-one}
-use native.Mathlib.Omega.{arith}
-use lib.ListN.{length, set, drop}
+use Rattle.std.proofs.Common.{◌≡◌, ℕ, suc, ◌+◌, ◌*◌, ◌-◌, ◌≤◌, ◌<◌, List, [], ◌∷◌, length, drop, refl, sym, ◌∙◌, ap, add-one, arith}
+use lib.ListN.{set}
 use lib.Seq.{drop-set-lt}
-use Rattle.bits.specs.Parsed.{Parsed, got, and_then, map_parsed, ◌>>=◌, pure, times}
-use Rattle.bits.specs.declared.Passed.{Passed}
+use Rattle.bits.specs.Parsed.{Parser, map_parsed, ◌>>=◌, map_p, pure, times}
 use Rattle.bits.proofs.Always.{times-length}
 use Rattle.bits.proofs.ParsedLaws.{then-got, map-then, then_map, map_last, map-such}
 use Rattle.standard.specs.Tree.{Timing}
@@ -16,8 +11,7 @@ use Rattle.standard.specs.Tables.{timing_numbers}
 use Rattle.standard.specs.Calls.{over}
 use Rattle.rows.specs.Places.{written}
 use Rattle.rows.proofs.Written.{written_over}
-use Rattle.objects.specs.Fills.{Filling, leaving, Fills, put_timing}
-use Rattle.objects.proofs.Filling.{to, on}
+use Rattle.objects.specs.Fills.{put_timing}
 
 -- One timing
 
@@ -35,40 +29,31 @@ unfolding timing_numbers
 numbers-length [] = refl
 numbers-length (t ∷ ts) = let e = numbers-length ts in omega arith
 
-module _ (offset : ℕ) (s : List ℕ) (e : ℕ) where
+module _ (offset : ℕ) where
   -- k more timings, from block b on
-  unfoldable pub storing : ℕ → ℕ → List ℕ → ℕ → Parsed (List ℕ)
-  storing k b t p = map_parsed (λ ts. written t (2 * b) (timing_numbers ts)) (times k (timing offset) s e p)
+  unfoldable pub storing : ℕ → ℕ → List ℕ → Parser (List ℕ)
+  storing k b t = map_p (λ ts. written t (2 * b) (timing_numbers ts)) (times k (timing offset))
 
-  one_more : (n b : ℕ) (t : List ℕ) (p : ℕ) → b < n
-      → storing (n - b) b t p ≡ and_then (map_parsed (put_timing t (2 * b)) (timing offset s e p)) (storing (n - (b + 1)) (b + 1))
-  unfolding storing times timing_numbers written ◌>>=◌ pure
-  one_more n b t p h =
-      let k : n - b ≡ suc (n - (b + 1)) = omega arith in
-      let i : suc (suc (2 * b)) ≡ 2 * (b + 1) = omega arith in
-      rw k (then_map (timing offset s e p) _ _
-      ∙ then-got (timing offset s e p) _ _ (λ x q.
-      map_last (times (n - (b + 1)) (timing offset) s e q) _ _
-      ∙ ap (λ j. map_parsed (λ ts. written (put_timing t (2 * b) x) j (timing_numbers ts)) (times (n - (b + 1)) (timing offset) s e q)) i)
-      ∙ sym (map-then (timing offset s e p) _ _))
+  module _ (s : List ℕ) (e p : ℕ) where
+    pub one_more : (n b : ℕ) (t : List ℕ) → b < n → storing (n - b) b t s e p ≡ (map_p (put_timing t (2 * b)) (timing offset) >>= storing (n - (b + 1)) (b + 1)) s e p
+    unfolding storing times timing_numbers written ◌>>=◌ pure map_p
+    one_more n b t h =
+        let k : n - b ≡ suc (n - (b + 1)) = omega arith in
+        let i : suc (suc (2 * b)) ≡ 2 * (b + 1) = omega arith in
+        rw k (then_map (timing offset s e p) _ _
+        ∙ then-got (timing offset s e p) _ _ (λ x q.
+        map_last (times (n - (b + 1)) (timing offset) s e q) _ _
+        ∙ ap (λ j. map_parsed (λ ts. written (put_timing t (2 * b) x) j (timing_numbers ts)) (times (n - (b + 1)) (timing offset) s e q)) i)
+        ∙ sym (map-then (timing offset s e p) _ _))
 
-  pub no_more : (n b : ℕ) (t : List ℕ) (p : ℕ) → n ≤ b → storing (n - b) b t p ≡ got t p
-  unfolding storing times timing_numbers written pure
-  no_more n b t p h = let k : n - b ≡ 0 = omega arith in rw k
+    pub no_more : (n b : ℕ) (t : List ℕ) → n ≤ b → storing (n - b) b t s e p ≡ pure t s e p
+    unfolding storing times timing_numbers written pure map_p
+    no_more n b t h = let k : n - b ≡ 0 = omega arith in rw k
 
-  -- from the head of the table on
-  pub all-stored : (n : ℕ) (t : List ℕ) (p : ℕ) → 2 * n ≤ length t
-      → map_parsed (λ ts. over (timing_numbers ts) t) (times n (timing offset) s e p) ≡ storing (n - 0) 0 t p
-  unfolding storing
-  all-stored n t p h =
-      let k : n - 0 ≡ n = omega arith in
-      rw k (map-such _ (times n (timing offset) s e p) _ _ ((times-length n (timing offset)).ok s e p)
-      (λ ts l. sym (written_over t (timing_numbers ts) (omega (arith, numbers-length ts)))))
-
--- a turn of the loop: a timing was read and stored, or refused
-pub turn : (n offset : ℕ) (s : List ℕ) (e b p : ℕ) {m₀ : Parsed (List ℕ)} {t₀ t t' : List ℕ} {r r' : Passed}
-    → Filling (2 * n) m₀ t₀ (storing offset s e (n - b) b t p) t
-    → Fills (2 * b + 2) (map_parsed (put_timing t (2 * b)) (timing offset s e p)) t r t' → b < n → r ≡ r'
-    → Filling (2 * n) m₀ t₀ (and_then (leaving t' r') (storing offset s e (n - (b + 1)) (b + 1))) t'
-turn n offset s e b p {t = t} {t'} h g l x =
-    on (leaving t') (storing offset s e (n - (b + 1)) (b + 1)) (to h (one_more offset s e n b t p l)) g (omega arith) x
+    -- from the head of the table on
+    pub all-stored : (n : ℕ) (t : List ℕ) → 2 * n ≤ length t → map_p (λ ts. over (timing_numbers ts) t) (times n (timing offset)) s e p ≡ storing (n - 0) 0 t s e p
+    unfolding storing map_p
+    all-stored n t h =
+        let k : n - 0 ≡ n = omega arith in
+        rw k (map-such _ (times n (timing offset) s e p) _ _ ((times-length n (timing offset)).ok s e p)
+        (λ ts l. sym (written_over t (timing_numbers ts) (omega (arith, numbers-length ts)))))

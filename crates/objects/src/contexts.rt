@@ -1,4 +1,5 @@
 // The context numbers of refusals, named after the strings of oamd.rs.
+// They are numbers and no enum: the reads of `bits` hand a context on, and know no syntax.
 pub const SAMPLE_OFFSET_CODE: u8 = 35;
 
 pub const SAMPLE_OFFSET_INDEX: u8 = 36;

@@ -2,20 +2,20 @@
 ghost use Rattle.std.specs.Prelude.{◌≡◌, map, ◌+◌, ◌*◌, ◌≤◌, ◌<◌, ◌^◌, length};
 ghost use Rattle.standard.specs.Numbers.{row_width};
 ghost use Rattle.rows.specs.Say.{row_said};
-ghost use Rattle.rows.specs.Kinds.{kind_of};
+ghost use Rattle.rows.specs.Kinds.{kind_said};
 ghost use Rattle.objects.specs.Fills.{Fills};
 ghost use Rattle.objects.specs.Walk.{place, gain_before, column_from, objects_from};
 
-use bits::{BitPlace, Passed};
-use rows::numbers::ROW_WIDTH;
-use rows::row::Row;
-use rows::table::{gain_at, put_row, row_at};
-use update::{UpdateRead, apply, read_update};
+use bits::{BitCursor, Refusal};
+use rows::numbers::{GAIN, ROW_WIDTH};
+use rows::row::{Kind, Row};
+use rows::table::{part_at, put_row, row_at};
+use update::{apply, read_update};
 
 // The rows of one object, of a kind: its place among so many objects, in each of so many blocks.
 #[derive(Clone, Copy)]
 struct Column {
-    kind: i16,
+    kind: Kind,
     object: usize,
     objects: usize,
     blocks: usize,
@@ -23,77 +23,66 @@ struct Column {
 
 // Each object begins after its row of the start table.
 pub fn parse_objects(
-    payload: &[u8],
-    limit: BitPlace,
-    at: BitPlace,
-    kinds: &[i16],
+    bits: &mut BitCursor,
+    kinds: &[Kind],
     block_count: usize,
     start: &[i16],
     blocks: &mut [i16],
-) -> Passed
+) -> Result<(), Refusal>
     requires { (length kinds.now * row_width ≤ length start.now) × (block_count * length kinds.now * row_width ≤ length blocks.old) }
-    ensures { Fills (block_count * length kinds.now * row_width) (objects_from (length kinds.now) block_count start.now 0 (map kind_of kinds.now) blocks.old payload.now limit.0 at.0) blocks.old result blocks.new }
+    ensures { Fills (block_count * length kinds.now * row_width) (objects_from (length kinds.now) block_count start.now 0 (map kind_said kinds.now) blocks.old) bits.old blocks.old result bits.new blocks.new }
 {
-    let mut place = at;
-    for object in 0..kinds.len() {
-        let kind = kinds[object];
+    for (object, kind) in kinds.iter().enumerate() {
         let column = Column {
-            kind,
+            kind: *kind,
             object,
             objects: kinds.len(),
             blocks: block_count,
         };
         let first = row_at(start, object * ROW_WIDTH);
-        match parse_object(payload, limit, place, column, first, blocks) {
-            Passed::Refused(refusal) => return Passed::Refused(refusal),
-            Passed::To(next) => place = next,
-        }
+        parse_object(bits, column, first, blocks)?;
     }
-    Passed::To(place)
+    Ok(())
 }
 
-// In each block the object goes on from its row of the block before.
+// In each block the object goes on from its row of the block before. A row has its place by the number of its block.
 fn parse_object(
-    payload: &[u8],
-    limit: BitPlace,
-    at: BitPlace,
+    bits: &mut BitCursor,
     column: Column,
     first: Row,
     blocks: &mut [i16],
-) -> Passed
+) -> Result<(), Refusal>
     requires { (column.object < column.objects) × (column.blocks * column.objects * row_width ≤ length blocks.old) }
-    ensures { Fills (column.blocks * column.objects * row_width) (column_from column.objects column.object (kind_of column.kind) column.blocks 0 (row_said first) blocks.old payload.now limit.0 at.0) blocks.old result blocks.new }
+    ensures { Fills (column.blocks * column.objects * row_width) (column_from column.objects column.object (kind_said column.kind) column.blocks 0 (row_said first) blocks.old) bits.old blocks.old result bits.new blocks.new }
 {
     let mut row = first;
-    let mut place = at;
     for block in 0..column.blocks {
-        match read_update(payload, limit, place, column.kind, block == 0) {
-            UpdateRead::Refused(refusal) => return Passed::Refused(refusal),
-            UpdateRead::Words(next, words) => {
-                let gain = gain_before(blocks, column, block);
-                row = apply(words, column.kind, gain, row);
-                put_row(blocks, row_place(column, block), row);
-                place = next;
-            }
+        let words = read_update(bits, column.kind, block == 0)?;
+        let gain = column.gain_before(blocks, block);
+        row = apply(words, column.kind, gain, row);
+        put_row(blocks, column.place(block), row);
+    }
+    Ok(())
+}
+
+impl Column {
+    // Where its row of a block begins.
+    #[tactic(auto, unfolding(crate::specs::Walk::place, standard::specs::Numbers::row_width))]
+    fn place(self, block: usize) -> usize
+        requires { place self.objects block self.object < 2 ^ 64 }
+        ensures { result ≡ place self.objects block self.object }
+    {
+        (block * self.objects + self.object) * ROW_WIDTH
+    }
+
+    // The gain of the object before, whose row ends where this one begins; 0 dB before the first object.
+    fn gain_before(self, blocks: &[i16], block: usize) -> i16
+        requires { place self.objects block self.object ≤ length blocks.now }
+        ensures { result ≡ gain_before self.objects block self.object blocks.now }
+    {
+        if self.object == 0 {
+            return 0;
         }
+        part_at(blocks, self.place(block) - ROW_WIDTH)[GAIN]
     }
-    Passed::To(place)
-}
-
-// The gain of the object before, whose row ends where this one begins; 0 dB before the first object.
-fn gain_before(blocks: &[i16], column: Column, block: usize) -> i16
-    requires { place column.objects block column.object ≤ length blocks.now }
-    ensures { result ≡ gain_before column.objects block column.object blocks.now }
-{
-    if column.object == 0 {
-        return 0;
-    }
-    gain_at(blocks, row_place(column, block) - ROW_WIDTH)
-}
-
-fn row_place(column: Column, block: usize) -> usize
-    requires { place column.objects block column.object < 2 ^ 64 }
-    ensures { result ≡ place column.objects block column.object }
-{
-    (block * column.objects + column.object) * ROW_WIDTH
 }

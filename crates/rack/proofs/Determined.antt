@@ -2,16 +2,16 @@
 use Prim.Native.Nat.{ℕ}
 use mathlib.Core.Path.{◌≡◌, sym, ◌∙◌}
 use mathlib.Core.List.{List}
+use lib.IntN.{ℤ}
 use lib.Ieee.{Float}
 use Rattle.standard.specs.Calls.{Lent, Done, Kept, RampAnswer, ShownAnswer, Taken}
 use Rattle.standard.specs.CarriedCalls.{HoldAnswer, TimingAnswer, CarryAnswer}
-use Rattle.rows.proofs.Determined.{Determines, programme-start-determined, reset-determined, gap-determined}
+use Rattle.bits.proofs.Determines.{Determines}
 use Rattle.oamd.specs.Promises.{lent}
-use Rattle.oamd.proofs.Determined.{hold-determined}
 use Rattle.timing.specs.Going.{going_in}
-use Rattle.rules.proofs.Determined.{timing-by-rule-determined, carry-determined, drop-determined}
-use Rattle.emdf.proofs.Determined.{take-determined}
-use Rattle.rack.specs.Twins.{DecodeLeft, answer_numbers, RampLeft, choice_numbers, ShownLeft, shown_floats, silence}
+use Rattle.rules.proofs.Determined.{drop-determined}
+use Rattle.emdf.proofs.Determined.{taken_is}
+use Rattle.rack.specs.Twins.{DecodeLeft, KeptLeft, HoldLeft, TimingLeft, CarryLeft, answer_numbers, RampLeft, choice_numbers, ShownLeft, shown_floats, silence}
 use Rattle.rack.proofs.oamd_decode.Reads as decode
 use Rattle.rack.proofs.oamd_start.Reads as start
 use Rattle.rack.proofs.oamd_reset.Reads as reset
@@ -51,16 +51,19 @@ pub oamd-decode-determined : Determines {Seen = Decoding} decode.Post
     })
 oamd-decode-determined κs a n n' s s' p q = decoding-is _ p ∙ sym (decoding-is _ q)
 
--- Programme start, reset and gap: the number and the table, as of the calls themselves
+-- Programme start, reset and gap: the number and the table
+
+kept-is : {k : Kept} (e : Kept) → KeptLeft k e.number e.retained → e ≡ k
+kept-is e p = λ i. record { number = p.number i; retained = p.retained i }
 
 pub oamd-start-determined : Determines {Seen = Kept} start.Post (λ κs n s. record { number = n; retained = s.0.now })
-oamd-start-determined = programme-start-determined
+oamd-start-determined κs a n n' s s' p q = kept-is _ p ∙ sym (kept-is _ q)
 
 pub oamd-reset-determined : Determines {Seen = Kept} reset.Post (λ κs n s. record { number = n; retained = s.0.now })
-oamd-reset-determined = reset-determined
+oamd-reset-determined κs a n n' s s' p q = kept-is _ p ∙ sym (kept-is _ q)
 
 pub oamd-gap-determined : Determines {Seen = Kept} gap.Post (λ κs n s. record { number = n; retained = s.0.now })
-oamd-gap-determined = gap-determined
+oamd-gap-determined κs a n n' s s' p q = kept-is _ p ∙ sym (kept-is _ q)
 
 -- Timing and row: the number
 
@@ -89,17 +92,26 @@ pub oamd-ramp-by-rule-determined : Determines {Seen = Ramping} ramp-by-rule.Post
     (λ κs n s. record { number = n; answers = s.1.1.1.1.1.0.now; fraction = s.1.1.1.1.1.1.0.now })
 oamd-ramp-by-rule-determined κs a n n' s s' p q = ramping-is _ p ∙ sym (ramping-is _ q)
 
--- Hold, timing by rule, carry and drop: as of the calls themselves
+-- Hold, timing by rule, carry and drop
+
+held-is : {h : HoldAnswer} (e : HoldAnswer) → HoldLeft h e.number e.objects e.start → e ≡ h
+held-is e p = λ i. record { number = p.number i; objects = p.objects i; start = p.start i }
 
 pub oamd-hold-determined : Determines {Seen = HoldAnswer} hold.Post (λ κs n s. record { number = n; objects = s.1.1.0.now; start = s.1.0.now })
-oamd-hold-determined = hold-determined
+oamd-hold-determined κs a n n' s s' p q = held-is _ p ∙ sym (held-is _ q)
+
+timed-is : {t : TimingAnswer} {n : ℕ} {l : List ℕ} → TimingLeft t n l → record { number = n; going = going_in l } ≡ t
+timed-is p = λ i. record { number = p.number i; going = p.state i }
 
 pub oamd-timing-by-rule-determined : Determines {Seen = TimingAnswer} timing-by-rule.Post (λ κs n s. record { number = n; going = going_in s.1.1.1.1.1.1.0.now })
-oamd-timing-by-rule-determined = timing-by-rule-determined
+oamd-timing-by-rule-determined κs a n n' s s' p q = timed-is p ∙ sym (timed-is q)
+
+carried_is : {t : CarryAnswer} {n : ℕ} {l : List ℕ} {r : List ℤ} → CarryLeft t n l r → record { number = n; going = going_in l; carried = r } ≡ t
+carried_is p = λ i. record { number = p.number i; going = p.state i; carried = p.carried i }
 
 pub oamd-carry-determined : Determines {Seen = CarryAnswer} carry.Post
     (λ κs n s. record { number = n; going = going_in s.1.1.1.1.1.1.1.0.now; carried = s.1.1.1.1.1.1.0.now })
-oamd-carry-determined = carry-determined
+oamd-carry-determined κs a n n' s s' p q = carried_is p ∙ sym (carried_is q)
 
 pub oamd-drop-determined : Determines drop.Post (λ κs r s. going_in s.0.now)
 oamd-drop-determined = drop-determined
@@ -122,4 +134,4 @@ oamd-shown-determined κs a n n' s s' p q = showing-is _ p ∙ sym (showing-is _
 -- Containers: the number, the length and the buffer, as of the call itself
 
 pub oamd-emdf-determined : Determines {Seen = Taken} emdf.Post (λ κs n s. record { number = n; length = s.1.1.0.now; buffer = s.1.0.now })
-oamd-emdf-determined = take-determined
+oamd-emdf-determined κs a n n' s s' p q = taken_is p ∙ sym (taken_is q)

@@ -5,7 +5,9 @@ use Rattle.standard.specs.Numbers.{accepted}
 use Rattle.standard.specs.Floats.{nought, one}
 use Rattle.standard.specs.Ramps.{Choice}
 use Rattle.standard.specs.Shown.{Gain, silent, decibels, Shown}
-use Rattle.standard.specs.Calls.{Answer, Done, RampAnswer, ShownAnswer}
+use Rattle.standard.specs.Calls.{Answer, Done, Kept, RampAnswer, ShownAnswer}
+use Rattle.standard.specs.CarriedCalls.{HoldAnswer, TimingAnswer, CarryAnswer}
+use Rattle.timing.specs.Going.{going_in}
 
 -- context, place, objects, blocks, unsettled, missing
 abbrev pub answer_numbers : Answer → List ℕ
@@ -18,6 +20,28 @@ pub record DecodeLeft (d : Done) (n : ℕ) (answer : List ℕ) (r s b : List ℤ
   pub start : s ≡ d.lent.start
   pub blocks : b ≡ d.lent.blocks
   pub timings : t ≡ d.lent.timings
+
+-- of programme start, reset and gap
+pub record KeptLeft (k : Kept) (n : ℕ) (l : List ℤ) : Type 0 where
+  pub number : n ≡ k.number
+  pub retained : l ≡ k.retained
+
+-- of a frame without blocks
+pub record HoldLeft (a : HoldAnswer) (n m : ℕ) (s : List ℤ) : Type 0 where
+  pub number : n ≡ a.number
+  pub objects : m ≡ a.objects
+  pub start : s ≡ a.start
+
+-- the three numbers of what is carried, after the timing test by a rule
+pub record TimingLeft (a : TimingAnswer) (n : ℕ) (s : List ℕ) : Type 0 where
+  pub number : n ≡ a.number
+  pub state : going_in s ≡ a.going
+
+-- and behind a frame, with the rows
+pub record CarryLeft (a : CarryAnswer) (n : ℕ) (s : List ℕ) (l : List ℤ) : Type 0 where
+  pub number : n ≡ a.number
+  pub state : going_in s ≡ a.going
+  pub carried : l ≡ a.carried
 
 -- from, to, elapsed, duration
 abbrev pub choice_numbers : Choice → List ℕ

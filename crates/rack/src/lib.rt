@@ -4,17 +4,27 @@
 ghost use Rattle.std.specs.Prelude.{◌≡◌};
 ghost use Rattle.standard.specs.Calls as calls;
 ghost use Rattle.standard.specs.CarriedCalls as edge;
-ghost use Rattle.rows.specs.Promises as rows;
-ghost use Rattle.oamd.specs.Promises.{lent, HoldLeft};
+ghost use Rattle.bits.specs.Faults.{number_of};
+ghost use Rattle.oamd.specs.Promises.{lent};
 ghost use Rattle.timing.specs.Going.{going_in};
 ghost use Rattle.timing.specs.Say.{ramp_said};
-ghost use Rattle.rules.specs.Promises.{TimingLeft, CarryLeft};
 ghost use Rattle.emdf.specs.Promises as emdf;
-ghost use Rattle.rack.specs.Twins.{DecodeLeft, RampPut, RampLeft, ShownLeft};
+ghost use Rattle.rack.specs.Twins.{DecodeLeft, KeptLeft, RampPut, RampLeft, ShownLeft, HoldLeft, TimingLeft, CarryLeft};
 
-use oamd::decoder::Decoded;
-use shown::view::{Gain, View};
+use bits::Fault;
+use oamd::DecodeError;
+use shown::view::Gain;
 use timing::ramps::Ramp;
+
+// 0 where a call is accepted.
+fn number_of<T: Copy>(answer: Result<T, Fault>) -> u32
+    ensures { result ≡ number_of answer }
+{
+    match answer {
+        Ok(_) => 0,
+        Err(fault) => fault.number(),
+    }
+}
 
 // A decoding: the answer is context, place, objects, blocks, unsettled, missing.
 #[unsafe(no_mangle)]
@@ -28,12 +38,12 @@ pub extern "C" fn oamd_decode(
 ) -> u32
     ensures { DecodeLeft (calls.decode payload.now (lent retained.old start.old blocks.old timings.old)) result answer.new retained.new start.new blocks.new timings.new }
 {
-    match oamd::decoder::decode(payload, retained, start, blocks, timings) {
-        Decoded::Accepted(frame) => {
+    match oamd::decode(payload, retained, start, blocks, timings) {
+        Ok(frame) => {
             *answer = [0, 0, frame.objects, frame.blocks, frame.unsettled, 0];
             0
         }
-        Decoded::Refused(refusal) => {
+        Err(DecodeError::Refused(refusal)) => {
             *answer = [
                 refusal.context as u32,
                 refusal.place.0 as u32,
@@ -42,11 +52,11 @@ pub extern "C" fn oamd_decode(
                 0,
                 refusal.missing,
             ];
-            refusal.number as u32
+            refusal.cause.number()
         }
-        Decoded::Unread(number) => {
-            *answer = [0, 0, 0, 0, 0, 0];
-            number
+        Err(DecodeError::Unread(fault)) => {
+            *answer = [0; 6];
+            fault.number()
         }
     }
 }
@@ -54,25 +64,25 @@ pub extern "C" fn oamd_decode(
 // Writes zeros: a fresh decoder, at the head of a programme.
 #[unsafe(no_mangle)]
 pub extern "C" fn oamd_start(retained: &mut [i16]) -> u32
-    ensures { rows.Left (calls.programme_start retained.old) result retained.new }
+    ensures { KeptLeft (calls.programme_start retained.old) result retained.new }
 {
-    rows::calls::programme_start(retained)
+    number_of(rows::calls::programme_start(retained))
 }
 
 // Writes zeros but for the doubt: a programme may be under way.
 #[unsafe(no_mangle)]
 pub extern "C" fn oamd_reset(retained: &mut [i16]) -> u32
-    ensures { rows.Left (calls.reset retained.old) result retained.new }
+    ensures { KeptLeft (calls.reset retained.old) result retained.new }
 {
-    rows::calls::reset(retained)
+    number_of(rows::calls::reset(retained))
 }
 
 // Sets doubt: something was missed.
 #[unsafe(no_mangle)]
 pub extern "C" fn oamd_gap(retained: &mut [i16]) -> u32
-    ensures { rows.Left (calls.gap retained.old) result retained.new }
+    ensures { KeptLeft (calls.gap retained.old) result retained.new }
 {
-    rows::calls::gap(retained)
+    number_of(rows::calls::gap(retained))
 }
 
 // The timing test of a frame's blocks.
@@ -80,7 +90,7 @@ pub extern "C" fn oamd_gap(retained: &mut [i16]) -> u32
 pub extern "C" fn oamd_timing(timings: &[u16], blocks: u32) -> u32
     ensures { result ≡ calls.timing_call timings.now blocks }
 {
-    timing::calls::timing(timings, blocks)
+    number_of(timing::calls::timing(timings, blocks))
 }
 
 // The ramp at a sample: the answer is from, to, elapsed, duration.
@@ -101,24 +111,24 @@ pub extern "C" fn oamd_ramp(
     )
 }
 
-fn put_ramp(ramp: Ramp, answer: &mut [u32; 4], fraction: &mut f32) -> u32
+fn put_ramp(ramp: Result<Ramp, Fault>, answer: &mut [u32; 4], fraction: &mut f32) -> u32
     ensures { RampPut (ramp_said ramp) result answer.new fraction.new }
 {
     match ramp {
-        Ramp::Chosen(choice, alpha) => {
+        Ok(ramp) => {
             *answer = [
-                choice.from,
-                choice.to,
-                choice.elapsed as u32,
-                choice.duration as u32,
+                ramp.choice.from,
+                ramp.choice.to,
+                ramp.choice.elapsed as u32,
+                ramp.choice.duration as u32,
             ];
-            *fraction = alpha;
+            *fraction = ramp.alpha;
             0
         }
-        Ramp::Refused(number) => {
-            *answer = [0, 0, 0, 0];
+        Err(fault) => {
+            *answer = [0; 4];
             *fraction = 0.0;
-            number
+            fault.number()
         }
     }
 }
@@ -128,7 +138,9 @@ fn put_ramp(ramp: Ramp, answer: &mut [u32; 4], fraction: &mut f32) -> u32
 pub extern "C" fn oamd_hold(retained: &[i16], start: &mut [i16], objects: &mut u32) -> u32
     ensures { HoldLeft (edge.hold retained.now start.old) result objects.new start.new }
 {
-    oamd::hold::hold(retained, start, objects)
+    let held = oamd::hold::hold(retained, start);
+    *objects = held.unwrap_or(0);
+    number_of(held)
 }
 
 // Before a frame: the timing test by a rule, and what the frame takes up. The state is objects, elapsed, duration.
@@ -144,7 +156,7 @@ pub extern "C" fn oamd_timing_by_rule(
 ) -> u32
     ensures { TimingLeft (edge.timing_by_rule rule timings.now blocks objects start.now carried.now (going_in state.old)) result state.new }
 {
-    rules::calls::timing_by_rule(rule, timings, blocks, objects, start, carried, state)
+    number_of(rules::calls::timing_by_rule(rule, timings, blocks, objects, start, carried, state))
 }
 
 // The ramp at a sample, by a rule.
@@ -181,9 +193,9 @@ pub extern "C" fn oamd_carry(
 ) -> u32
     ensures { CarryLeft (edge.carry rule timings.now blocks objects start.now block_rows.now carried.old (going_in state.old)) result state.new carried.new }
 {
-    rules::calls::carry(
+    number_of(rules::calls::carry(
         rule, timings, blocks, objects, start, block_rows, carried, state,
-    )
+    ))
 }
 
 // A gap, a reset or a programme start drops what is carried.
@@ -199,9 +211,7 @@ pub extern "C" fn oamd_drop(state: &mut [u16; 3])
 pub extern "C" fn oamd_row(table: &[i16], index: u32) -> u32
     ensures { result ≡ (calls.part_call table.now index).number }
 {
-    let mut number = 0;
-    rows::calls::row_part(table, index as usize, &mut number);
-    number
+    number_of(rows::calls::row_part(table, index as usize))
 }
 
 // What is shown of a row: x, y, z, width, depth, height, priority, decibels. Silence has no decibels, but a 0.
@@ -215,9 +225,8 @@ pub extern "C" fn oamd_shown(
     ensures { ShownLeft (calls.shown_call table.now index) result values.new silent.new }
 {
     match shown::calls::shown(table, index as usize) {
-        View::Row(s) => {
-            let gain = s.gain;
-            match gain {
+        Ok(s) => {
+            match s.gain {
                 Gain::Silence => {
                     *values = [s.x, s.y, s.z, s.width, s.depth, s.height, s.priority, 0.0];
                     *silent = 1;
@@ -229,10 +238,10 @@ pub extern "C" fn oamd_shown(
             }
             0
         }
-        View::Refused(number) => {
-            *values = [0.0, 0.0, 0.0, 0.0, 0.0, 0.0, 0.0, 0.0];
+        Err(fault) => {
+            *values = [0.0; 8];
             *silent = 1;
-            number
+            fault.number()
         }
     }
 }
@@ -242,5 +251,7 @@ pub extern "C" fn oamd_shown(
 pub extern "C" fn oamd_emdf(container: &[u8], buffer: &mut [u8], length: &mut u32) -> u32
     ensures { emdf.Left (calls.emdf_call container.now buffer.old) result length.new buffer.new }
 {
-    emdf::take(container, buffer, length)
+    let taken = emdf::take(container, buffer);
+    *length = taken.unwrap_or(0);
+    number_of(taken)
 }

@@ -1,146 +1,106 @@
 // One payload: decoded, and every number compared with the answer in the list.
-use crate::lengths::{BLOCKS_LENT, RETAINED_LENT, START_LENT, TIMINGS_AT, TIMINGS_LENT};
-use crate::tally::{BLOCKS, RETAINED, START, TIMINGS, Tally};
-use crate::{list, others, tables};
-use oamd::Decoded;
-use rows::numbers::{RETAINED_HEAD, RETAINED_LENGTH, ROW_WIDTH};
+use crate::answers::{HEAD_LENGTH, Head};
+use crate::tables::{Retained, Tables};
+use crate::tally::{Part, Record, Tally};
+use bits::Fault;
+use rows::numbers::{
+    BLOCKS_LENGTH, PAYLOAD_LIMIT, RETAINED_HEAD, RETAINED_LENGTH, ROW_WIDTH, START_LENGTH,
+    TIMINGS_LENGTH,
+};
 
-// The numbers of an answer, as the specification gives them for each case.
+// One byte more than decode reads.
+pub const LONGEST_PAYLOAD: usize = PAYLOAD_LIMIT + 1;
+
+// Behind the head a timing takes two bytes, and any other number one.
+pub const LONGEST_ANSWER: usize = HEAD_LENGTH
+    + 2 * TIMINGS_LENGTH
+    + RETAINED_LENGTH
+    + START_LENGTH
+    + BLOCKS_LENGTH;
+
+// The tables of an accepted answer, as they stand in the list: the retained table without the zeros behind its rows.
 #[derive(Clone, Copy)]
-struct Given {
-    number: usize,
-    context: usize,
-    place: usize,
-    objects: usize,
-    blocks: usize,
-    unsettled: usize,
-    missing: usize,
+struct Listed<'a> {
+    timings: &'a [u8],
+    head: [u8; RETAINED_HEAD],
+    start: &'a [u8],
+    retained: &'a [u8],
+    blocks: &'a [u8],
 }
 
-fn unread(number: u32) -> Given {
-    Given {
-        number: number as usize,
-        context: 0,
-        place: 0,
-        objects: 0,
-        blocks: 0,
-        unsettled: 0,
-        missing: 0,
+impl<'a> Listed<'a> {
+    // None where the answer is too short. The block rows stand last, so its length says how many numbers they are.
+    fn new(answer: &'a [u8], head: Head) -> Option<Self> {
+        let row = head.objects as usize * ROW_WIDTH;
+        let (_, tables) = answer.split_at_checked(HEAD_LENGTH)?;
+        let (timings, rest) = tables.split_at_checked(4 * head.blocks as usize)?;
+        let (head, rows) = rest.split_first_chunk()?;
+        let (start, rest) = rows.split_at_checked(row)?;
+        let (retained, blocks) = rest.split_at_checked(row)?;
+        Some(Listed {
+            timings,
+            head: *head,
+            start,
+            retained,
+            blocks,
+        })
+    }
+
+    fn compare(self, tally: &mut Tally, tables: &Tables) {
+        let pairs = self.timings.chunks_exact(2);
+        let timings = pairs.map(|pair| u16::from_be_bytes([pair[0], pair[1]]));
+        let pair_count = timings.len();
+        tables.timings.listed(tally, 0, timings);
+        tables.start.listed(tally, 0, self.start.iter().map(signed));
+        tables
+            .blocks
+            .listed(tally, 0, self.blocks.iter().map(signed));
+        self.compare_retained(tally, &tables.retained);
+        tables.start.untouched(tally, self.start.len());
+        tables.blocks.untouched(tally, self.blocks.len());
+        tables.timings.untouched(tally, pair_count);
+    }
+
+    // Count and doubt, the rows, and nothing behind them.
+    fn compare_retained(self, tally: &mut Tally, table: &Retained) {
+        table.listed(tally, 0, self.head.iter().map(|byte| i16::from(*byte)));
+        let rows = self.retained.iter().map(signed);
+        table.listed(tally, RETAINED_HEAD, rows);
+        table.zeroed(tally, RETAINED_HEAD + self.retained.len());
     }
 }
 
-fn refused(refusal: bits::Refusal) -> Given {
-    Given {
-        number: list::wide(refusal.number),
-        context: list::wide(refusal.context),
-        place: refusal.place.0,
-        objects: 0,
-        blocks: 0,
-        unsettled: 0,
-        missing: refusal.missing as usize,
+// The numbers of a row lie between -128 and 127.
+fn signed(byte: &u8) -> i16 {
+    i16::from(byte.cast_signed())
+}
+
+// Compares what an accepted payload should have left. An answer that is too short for it is one difference.
+fn accepted(tally: &mut Tally, answer: &[u8], head: Head, tables: &Tables) {
+    match Listed::new(answer, head) {
+        Some(listed) => listed.compare(tally, tables),
+        None => tally.differs(Part::Answer, 0),
     }
 }
 
-fn said(decoded: Decoded) -> Given {
-    match decoded {
-        Decoded::Accepted(frame) => Given {
-            number: 0,
-            context: 0,
-            place: 0,
-            objects: frame.objects as usize,
-            blocks: frame.blocks as usize,
-            unsettled: frame.unsettled as usize,
-            missing: 0,
-        },
-        Decoded::Refused(refusal) => refused(refusal),
-        Decoded::Unread(number) => unread(number),
+pub fn replay(tally: &mut Tally, payload: &[u8], answer: &[u8], tables: &mut Tables) {
+    let before = tables.retained.numbers;
+    let given = Head::from(tables.decode(payload));
+    let listed = Head::listed(answer);
+    tally.record(if listed.number == 0 {
+        Record::Accepted
+    } else {
+        Record::Refused
+    });
+    given.compare(listed, tally);
+    if listed.number == 0 {
+        return accepted(tally, answer, listed, tables);
     }
-}
-
-fn answer_compared(tally: Tally, given: Given, answer: &[u8]) -> Tally {
-    tally
-        .answered(0, given.number, list::wide(list::byte_at(answer, 0)))
-        .answered(1, given.context, list::wide(list::byte_at(answer, 1)))
-        .answered(2, given.place, list::four_at(answer, 2))
-        .answered(3, given.objects, list::wide(list::byte_at(answer, 6)))
-        .answered(4, given.blocks, list::wide(list::byte_at(answer, 7)))
-        .answered(5, given.unsettled, list::wide(list::byte_at(answer, 8)))
-        .answered(6, given.missing, list::four_at(answer, 9))
-}
-
-// What the retained table has: count and doubt, the rows, zeros behind them.
-fn kept(
-    tally: Tally,
-    answer: &[u8],
-    head: usize,
-    rows: usize,
-    n: usize,
-    retained: &[i16],
-) -> Tally {
-    let tally = tally.with(RETAINED, others::than_byte(retained, 0, answer, head));
-    let doubt = std::num::wrapping_add_usize(head, 1);
-    let tally = tally.with(RETAINED, others::than_byte(retained, 1, answer, doubt));
-    let tally = tally.with(
-        RETAINED,
-        others::than_listed(retained, RETAINED_HEAD, answer, rows, n),
-    );
-    let behind = std::num::wrapping_add_usize(RETAINED_HEAD, n);
-    tally.with(RETAINED, others::than(retained, behind, RETAINED_LENGTH, 0))
-}
-
-// The block rows stand last, so the answer's length says how many numbers they are.
-fn accepted(
-    tally: Tally,
-    answer: &[u8],
-    retained: &[i16],
-    start: &[i16],
-    blocks: &[i16],
-    timings: &[u16],
-) -> Tally {
-    let row = list::wide(list::byte_at(answer, 6)) * ROW_WIDTH;
-    let pairs = list::wide(list::byte_at(answer, 7)) * 2;
-    let head = TIMINGS_AT + pairs * 2;
-    let start_at = head + RETAINED_HEAD;
-    let kept_at = start_at + row;
-    let blocks_at = kept_at + row;
-    if answer.len() < blocks_at {
-        return tally.answered(0, 0, 1);
+    tables.retained.same(tally, &before);
+    // A payload that is refused clears the frame; where a fault is told, nothing was read.
+    if listed.number < Fault::Room.number() {
+        tables.zeroed(tally);
+    } else {
+        tables.untouched(tally);
     }
-    let n = answer.len() - blocks_at;
-    let tally = tally.with(
-        TIMINGS,
-        others::timings_than_listed(timings, answer, TIMINGS_AT, pairs),
-    );
-    let tally = tally.with(START, others::than_listed(start, 0, answer, start_at, row));
-    let tally = tally.with(BLOCKS, others::than_listed(blocks, 0, answer, blocks_at, n));
-    let tally = kept(tally, answer, head, kept_at, row, retained);
-    let tally = tables::untouched_behind(tally, retained);
-    tables::untouched(tally, start, row, blocks, n, timings, pairs)
-}
-
-pub fn replay(
-    tally: Tally,
-    payload: &[u8],
-    answer: &[u8],
-    retained: &mut [i16; RETAINED_LENT],
-    start: &mut [i16; START_LENT],
-    blocks: &mut [i16; BLOCKS_LENT],
-    timings: &mut [u16; TIMINGS_LENT],
-) -> Tally {
-    tables::fill(retained, RETAINED_LENGTH);
-    tables::fill(start, 0);
-    tables::fill(blocks, 0);
-    tables::fill_timings(timings);
-    let before = *retained;
-    let decoded = oamd::decode(payload, retained, start, blocks, timings);
-    let number = list::byte_at(answer, 0);
-    let tally = answer_compared(tally.payload(number), said(decoded), answer);
-    if number == 0 {
-        return accepted(tally, answer, retained, start, blocks, timings);
-    }
-    let tally = tally.with(RETAINED, others::than_before(retained, &before));
-    if number < 5 {
-        return tables::zeroed(tally, start, blocks, timings);
-    }
-    tables::untouched(tally, start, 0, blocks, 0, timings, 0)
 }

@@ -1,42 +1,29 @@
 // The lines that are printed at the end. What cannot be written is left out.
-use crate::tally::{ANSWER, BLOCKS, ENDED, START, TIMINGS, Tally};
+use crate::tally::Tally;
 use std::io::Write;
 
-fn line<W: Write>(output: &mut W, name: &[u8], number: u64) {
-    let _ = output.write_all(name);
-    let _ = writeln!(output, "{number}");
-}
-
-fn part<W: Write>(output: &mut W, part: u8) {
-    let _ = match part {
-        ANSWER => output.write_all(b", answer "),
-        TIMINGS => output.write_all(b", timings "),
-        START => output.write_all(b", start "),
-        BLOCKS => output.write_all(b", blocks "),
-        _ => output.write_all(b", retained "),
-    };
-}
-
-fn first_difference<W: Write>(output: &mut W, tally: Tally) {
-    let record = tally.record;
-    let _ = write!(output, "first difference: record {record}");
-    part(output, tally.part);
-    line(output, b"number ", tally.index as u64);
-}
-
-pub fn print<W: Write>(output: &mut W, tally: Tally) {
-    line(output, b"sequences ", tally.sequences);
-    line(output, b"payloads ", tally.payloads);
-    line(output, b"accepted ", tally.accepted);
-    line(output, b"refused ", tally.refused);
-    line(output, b"starts ", tally.starts);
-    line(output, b"resets ", tally.resets);
-    line(output, b"gaps ", tally.gaps);
-    line(output, b"differences ", tally.differences);
-    if tally.differences != 0 {
-        first_difference(output, tally);
+pub fn print<W: Write>(output: &mut W, tally: &Tally, torn: bool) {
+    let lines = [
+        ("sequences", tally.sequences),
+        ("payloads", tally.accepted.wrapping_add(tally.refused)),
+        ("accepted", tally.accepted),
+        ("refused", tally.refused),
+        ("starts", tally.starts),
+        ("resets", tally.resets),
+        ("gaps", tally.gaps),
+        ("differences", tally.differences),
+    ];
+    for (name, number) in lines {
+        let _ = writeln!(output, "{name} {number}");
     }
-    if tally.ending != ENDED {
-        let _ = output.write_all(b"the list is torn\n");
+    if let Some(first) = tally.first {
+        let _ = writeln!(
+            output,
+            "first difference: record {}, {} number {}",
+            first.record, first.part, first.index
+        );
+    }
+    if torn {
+        let _ = writeln!(output, "the list is torn");
     }
 }

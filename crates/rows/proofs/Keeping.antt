@@ -1,13 +1,13 @@
 -- Laws of the retained table: read as a state, and written anew as a state's numbers over its head.
-use Prim.Native.Nat.{ℕ, suc, ◌+◌, ◌-◌, ◌*◌, ◌≤◌, ◌<◌}
-use mathlib.Core.Path.{◌≡◌, refl, ◌∙◌, ap}
+use Prim.Native.Nat.{ℕ, ◌+◌, ◌-◌, ◌*◌, ◌≤◌, ◌<◌}
+use mathlib.Core.Path.{◌≡◌}
 use mathlib.Core.Bool.{true, and-eq-true_iff}
 use mathlib.Core.List.{List, [], ◌∷◌, ◌++◌}
 use native.Mathlib.Omega.{arith}
 use lib.IntN.{ℤ, pos}
 use lib.ListN.{length, get_or, take, drop, set, replicate, length-append, length-drop, length-replicate}
-use lib.Seq.{sets, length-take-le}
-use Rattle.standard.specs.Numbers.{row_width, object_limit, retained_head, retained_length, start_length}
+use lib.Seq.{length-take-le}
+use Rattle.standard.specs.Numbers.{row_width, object_limit, retained_head, retained_length}
 use Rattle.standard.specs.Rows.{no_row}
 use Rattle.standard.specs.Tables.{rows_of, count_of, state_of, state_numbers, in_form}
 use Rattle.standard.specs.Calls.{over}
@@ -29,37 +29,22 @@ retained-row l i h = get_d-rows_of (count_of l) i retained_head l h
 
 -- Written anew
 
-sets_behind : (vs l : List ℤ) (i : ℕ) (a : ℤ) → sets (a ∷ l) (suc i) vs ≡ a ∷ sets l i vs
-sets_behind [] l i a = refl
-sets_behind (v ∷ vs) l i a = sets_behind vs (set l i v) (suc i) a
-
--- behind the two numbers of the head
-written_behind : (a b : ℤ) (l vs : List ℤ) → written (a ∷ b ∷ l) retained_head vs ≡ a ∷ b ∷ written l 0 vs
-unfolding written retained_head
-written_behind a b l vs = sets_behind vs (b ∷ l) 1 a ∙ ap (λ (m : List ℤ). a ∷ m) (sets_behind vs l 0 b)
-
--- the head is written after what lies behind it, and might have been before
-head-after : (l vs : List ℤ) (a b : ℤ) → 2 ≤ length l → set (set (written l retained_head vs) 0 a) 1 b ≡ written (set (set l 0 a) 1 b) retained_head vs
-head-after [] vs a b h = absurd (omega arith)
-head-after (x ∷ []) vs a b h = absurd (omega arith)
-head-after (x ∷ y ∷ l) vs a b h = rw (written_behind x y l vs, written_behind a b l vs)
-
 -- the zeros behind n rows
-zeros-left : (n : ℕ) → n ≤ object_limit → start_length - n * row_width ≡ row_width * (object_limit - n)
-unfolding start_length row_width object_limit
+zeros-left : (n : ℕ) → n ≤ object_limit → retained_length - (retained_head + n * row_width) ≡ row_width * (object_limit - n)
+unfolding retained_length retained_head row_width object_limit
 zeros-left n h = omega arith
 
--- the numbers of n rows, a new head, and zeros behind them
+-- a head, the numbers of n rows behind it, and zeros behind them
 state-over : (n : ℕ) (vs l : List ℤ) → n ≤ object_limit → length vs ≡ n * row_width → retained_length ≤ length l
-    → written (set (set (written l retained_head vs) 0 (pos n)) 1 (pos 0)) (retained_head + n * row_width) (replicate (start_length - n * row_width) (pos 0))
+    → written (written (set (set l 0 (pos n)) 1 (pos 0)) retained_head vs) (retained_head + n * row_width) (replicate (retained_length - (retained_head + n * row_width)) (pos 0))
     ≡ over (pos n ∷ pos 0 ∷ vs ++ replicate (row_width * (object_limit - n)) (pos 0)) l
-unfolding written retained_head retained_length start_length row_width object_limit
+unfolding written retained_head retained_length row_width object_limit
 state-over n vs l few e long =
     let head : List ℤ = pos n ∷ pos 0 ∷ [] in
     let zeros : List ℤ = replicate (row_width * (object_limit - n)) (pos 0) in
     let at : 0 + length (head ++ vs) ≡ retained_head + n * row_width = omega arith in
     let fits : length ((head ++ vs) ++ zeros) ≤ length l = simp (length-append, length-replicate) (omega arith) in
-    rw (head-after l vs (pos n) (pos 0) (omega arith), zeros-left n few, written_after l 0 head vs, ← at, written_after l 0 (head ++ vs) zeros)
+    rw (zeros-left n few, written_after l 0 head vs, ← at, written_after l 0 (head ++ vs) zeros)
     (written_over l ((head ++ vs) ++ zeros) fits)
 
 state-numbers : (n : ℕ) (l : List ℤ) → n * row_width ≤ length l
@@ -68,7 +53,7 @@ unfolding state_numbers
 state-numbers n l h = rw (length-rows_of n l, numbers-rows n l h)
 
 pub kept : {l b : List ℤ} {first n : ℕ} → Keepable l b first n
-    → written (set (set (written l retained_head (take (n * row_width) (drop first b))) 0 (pos n)) 1 (pos 0)) (retained_head + n * row_width) (replicate (start_length - n * row_width) (pos 0))
+    → written (written (set (set l 0 (pos n)) 1 (pos 0)) retained_head (take (n * row_width) (drop first b))) (retained_head + n * row_width) (replicate (retained_length - (retained_head + n * row_width)) (pos 0))
     ≡ over (state_numbers (record { doubt = pos 0; rows = rows_of n (drop first b) })) l
 kept {l} {b} {first} {n} k =
     let there : n * row_width ≤ length (drop first b) = simp length-drop (omega arith) in

@@ -5,8 +5,9 @@ use mathlib.Core.Logic.{◌⊎◌, inl, inr, ⊎_elim}
 use mathlib.Core.List.{List, [], ◌∷◌, ◌++◌, append_assoc}
 use native.Mathlib.Nat.{add-zero, zero-add}
 use native.Mathlib.Omega.{arith}
-use lib.ListN.{length, get_or, take, drop, set, length-append}
-use lib.Seq.{sets, length-sets, sets-eq, length-take-le, drop_at, take-append_seam, take-set-le, drop-set-lt, drop-set-add, get_or-take, get_or-drop}
+use borrow.Rule.Slice.PartMut.{put_mid}
+use lib.ListN.{length, get_or, take, drop, set, replicate, length-append, length-take, length-drop, length-replicate}
+use lib.Seq.{sets, length-sets, sets-eq, drop-drop, length-take-le, drop_at, take-append_seam, take-set-le, drop-set-lt, drop-set-add, get_or-take, get_or-drop}
 use Rattle.standard.specs.Calls.{over}
 use Rattle.rows.specs.Places.{written}
 
@@ -68,6 +69,24 @@ module _ {A : Type 0} where
       let k : (j + 1 ≤ at) ⊎ (at + length vs ≤ j) = ⊎_elim (λ (p : j < at). inl (omega arith)) inr h in
       rw add-zero at
       (sym (get_d_part 1 j 0 (written l at vs) d (omega arith)) ∙ ap (λ (m : List A). get_or m 0 d) (part-other l at vs 1 j k) ∙ get_d_part 1 j 0 l d (omega arith))
+
+  -- What the library leaves: a part that was copied to or filled, and a head that was filled
+
+  in_place : (at k : ℕ) (l ys : List A) → at + k ≤ length l → length ys ≡ k → put_mid at k l ys ≡ written l at ys
+  unfolding written
+  in_place at k l ys h e = rw (sets-eq ys l at (omega arith), e, append_assoc) (ap (λ (m : List A). take at l ++ (ys ++ m)) (drop-drop k at l))
+
+  pub copied : (at k : ℕ) (l ys : List A) {vs : List A} → at + k ≤ length l → length ys ≡ length (take k (drop at l)) → ys ≡ vs → put_mid at k l ys ≡ written l at vs
+  copied at k l ys h e same = rw (in_place at k l ys h (e ∙ simp (length-take, length-drop) (omega arith)), same)
+
+  pub filled : (at k : ℕ) (l ys : List A) (v : A) → at + k ≤ length l → ys ≡ replicate (length (take k (drop at l))) v → put_mid at k l ys ≡ written l at (replicate k v)
+  filled at k l ys v h same =
+      let e : length (take k (drop at l)) ≡ k = simp (length-take, length-drop) (omega arith) in
+      let f : ys ≡ replicate k v = rw e at same in
+      in_place at k l ys h (ap length f ∙ length-replicate k v) ∙ rw f
+
+  pub head-filled : (n : ℕ) (l ys : List A) (v : A) → n ≤ length l → ys ≡ replicate (length (take n l)) v → ys ++ drop n l ≡ over (replicate n v) l
+  head-filled n l ys v h e = rw (e, length-take-le n l h, length-replicate)
 
   -- Over the head
 

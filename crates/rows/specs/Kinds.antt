@@ -1,7 +1,16 @@
--- The kind that a number names: 0 Lfe, 1 Bed, 2 Isf, any other Dynamic.
-use Rattle.std.specs.Prelude.{cond, ℤ}
-use Rattle.standard.specs.Tree.{Kind, lfe, bed, isf, dynamic}
+-- The paper's kind of each kind of the code, and of each number.
+use Rattle.std.specs.Prelude.{ℤ, cond}
+use Rattle.standard.specs.Tree as tree
 use Rattle.standard.specs.Rows.{is}
+use Rattle.rows.specs.declared.row.Kind.{Kind}
+use Rattle.rows.specs.declared.row.Kind.TheVariants as kind
 
-unfoldable pub kind_of : ℤ → Kind
-kind_of z = cond (is 0 z) lfe (cond (is 1 z) bed (cond (is 2 z) isf dynamic))
+abbrev pub kind_said : Kind → tree.Kind
+kind_said kind.Lfe = tree.lfe
+kind_said kind.Bed = tree.bed
+kind_said kind.Isf = tree.isf
+kind_said kind.Dynamic = tree.dynamic
+
+-- a number that is no kind's is read as a Dynamic
+unfoldable pub kind_of : ℤ → tree.Kind
+kind_of z = cond (is 0 z) tree.lfe (cond (is 1 z) tree.bed (cond (is 2 z) tree.isf tree.dynamic))

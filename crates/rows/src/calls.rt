@@ -1,47 +1,50 @@
 // The public calls that need a table alone: programme start, reset, gap, and the row of an object. None asks anything of its caller.
 ghost use Rattle.std.specs.Prelude.{◌<◌, ◌≡◌, pos, length, set};
 ghost use Rattle.standard.specs.Numbers.{doubt_at};
-ghost use Rattle.standard.specs.Calls.{programme_start, reset, gap, row_number, part_call};
+ghost use Rattle.standard.specs.Calls.{programme_start, reset, gap, part_call};
 ghost use Rattle.rows.specs.Promises.{Left, Handed};
 
-use crate::form::{in_form, shown_form};
-use crate::numbers::{ACCEPTED, DOUBT, FORM, INDEX, RETAINED_LENGTH, ROOM, ROW_WIDTH};
-use crate::table::{clear, row_at};
+use crate::form::in_form;
+use crate::numbers::{DOUBT, RETAINED_LENGTH, ROW_WIDTH};
+use crate::row::Row;
+use crate::table::part_at;
+use bits::Fault;
 
 // A fresh decoder, at the head of a programme.
-pub fn programme_start(retained: &mut [i16]) -> u32
+#[tactic(auto, using(std::proofs::lemmas::Bool::Decides::nat_tests), unfolding(standard::specs::Calls::programme_start, standard::specs::Calls::renewed, standard::specs::Numbers::retained_length))]
+pub fn programme_start(retained: &mut [i16]) -> Result<(), Fault>
     ensures { Left (programme_start retained.old) result retained.new }
 {
     if retained.len() < RETAINED_LENGTH {
-        return ROOM;
+        return Err(Fault::Room);
     }
-    clear(retained, RETAINED_LENGTH);
-    ACCEPTED
+    retained[..RETAINED_LENGTH].fill(0);
+    Ok(())
 }
 
 // A programme may be under way: the same start, but in doubt.
-pub fn reset(retained: &mut [i16]) -> u32
+#[tactic(auto, using(std::proofs::lemmas::Bool::Decides::nat_tests), unfolding(standard::specs::Calls::programme_start, standard::specs::Calls::reset, standard::specs::Calls::renewed, standard::specs::Numbers::retained_length))]
+pub fn reset(retained: &mut [i16]) -> Result<(), Fault>
     ensures { Left (reset retained.old) result retained.new }
 {
-    let number = programme_start(retained);
-    if number == ACCEPTED {
-        doubt(retained);
-    }
-    number
+    programme_start(retained)?;
+    doubt(retained);
+    Ok(())
 }
 
 // Only the doubt changes.
-pub fn gap(retained: &mut [i16]) -> u32
+#[tactic(auto, using(std::proofs::lemmas::Bool::Decides::nat_tests), unfolding(standard::specs::Calls::gap, standard::specs::Numbers::retained_length))]
+pub fn gap(retained: &mut [i16]) -> Result<(), Fault>
     ensures { Left (gap retained.old) result retained.new }
 {
     if retained.len() < RETAINED_LENGTH {
-        return ROOM;
+        return Err(Fault::Room);
     }
     if !in_form(retained) {
-        return FORM;
+        return Err(Fault::Form);
     }
     doubt(retained);
-    ACCEPTED
+    Ok(())
 }
 
 fn doubt(retained: &mut [i16])
@@ -51,30 +54,20 @@ fn doubt(retained: &mut [i16])
     retained[DOUBT] = 1;
 }
 
-// Why the row at an index cannot be shown. The rows are counted first, since the index may be any number.
-fn row_number(table: &[i16], index: usize) -> u32
-    ensures { result ≡ row_number table.now index }
+// The row at an index, as the part of the table where it lies.
+#[tactic(auto, using(std::proofs::lemmas::Bool::Decides::nat_tests), unfolding(standard::specs::Calls::part_call, standard::specs::Calls::row_number, standard::specs::Calls::row_part, standard::specs::Numbers::row_width))]
+pub fn row_part(table: &[i16], index: usize) -> Result<&[i16; ROW_WIDTH], Fault>
+    ensures { Handed (part_call table.now index) result }
 {
+    // The rows are counted first, since the index may be any number.
     let rows = table.len() / ROW_WIDTH;
     if rows <= index {
-        return INDEX;
+        return Err(Fault::Index);
     }
-    if shown_form(row_at(table, index * ROW_WIDTH)) {
-        return ACCEPTED;
+    let part = part_at(table, index * ROW_WIDTH);
+    if Row::from(part).shown_form() {
+        Ok(part)
+    } else {
+        Err(Fault::Form)
     }
-    FORM
-}
-
-// The row at an index, as the part of the table where it lies: empty where its number is not 0.
-pub fn row_part<'a>(table: &'a [i16], index: usize, number: &mut u32) -> &'a [i16]
-    ensures { Handed (part_call table.now index) number.new result.now }
-{
-    let n = row_number(table, index);
-    *number = n;
-    if n != ACCEPTED {
-        return &table[0..0];
-    }
-    let at = index * ROW_WIDTH;
-    let end = at + ROW_WIDTH;
-    &table[at..end]
 }

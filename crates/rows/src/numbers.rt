@@ -1,4 +1,4 @@
-// Every size, column and range of what is lent, and the numbers given back here, each named once.
+// Every size, column and range of what is lent, each named once.
 pub const ROW_WIDTH: usize = 16;
 
 pub const OBJECT_LIMIT: usize = 128;
@@ -77,7 +77,8 @@ pub const SILENCE: i16 = -128;
 // x and y of the default picture.
 pub const MIDDLE: i16 = 31;
 
-// The marks of a row with no group settled, and with every one; and how many marks there are.
+// The marks of a row with no group settled, and with every one; and how many marks there are. A lent row holds them, and
+// C reads them.
 pub const UNSETTLED: i16 = 0;
 
 pub const SETTLED: i16 = 31;
@@ -97,13 +98,3 @@ pub const LOCK_BIT: u32 = 16;
 
 // The longest payload that is read, in bytes.
 pub const PAYLOAD_LIMIT: usize = 16384;
-
-pub const ACCEPTED: u32 = 0;
-
-pub const ROOM: u32 = 5;
-
-pub const FORM: u32 = 6;
-
-pub const SIZE: u32 = 7;
-
-pub const INDEX: u32 = 12;

@@ -1,10 +1,9 @@
 // A row by value, nested as in the paper: read from its numbers, and laid out as numbers again.
-ghost use Rattle.std.specs.Prelude.{◌≡◌, length};
-ghost use Rattle.standard.specs.Numbers.{row_width};
+ghost use Rattle.std.specs.Prelude.{◌≡◌};
 ghost use Rattle.standard.specs.Tree.{is_dynamic, kind_number};
 ghost use Rattle.standard.specs.Rows.{default_picture};
 ghost use Rattle.standard.specs.Tables.{row_numbers, row_of};
-ghost use Rattle.rows.specs.Kinds.{kind_of};
+ghost use Rattle.rows.specs.Kinds.{kind_said, kind_of};
 ghost use Rattle.rows.specs.Say.{point_said, zone_said, size_said, picture_said, row_said};
 
 use crate::numbers::{
@@ -12,44 +11,59 @@ use crate::numbers::{
     ROW_WIDTH, SCREEN, WIDTH, X, Y, Z, ZONE,
 };
 
-// The kinds. All but the last are fixed.
-pub const LFE: i16 = 0;
-
-pub const BED: i16 = 1;
-
-pub const ISF: i16 = 2;
-
-pub const DYNAMIC: i16 = 3;
-
-// Any number that names no fixed kind.
-pub fn is_dynamic(kind: i16) -> bool
-    ensures { result ≡ is_dynamic (kind_of kind) }
-{
-    let fixed = (kind == LFE) | (kind == BED) | (kind == ISF);
-    !fixed
+// All but the last are fixed.
+#[derive(Clone, Copy, PartialEq, Eq)]
+pub enum Kind {
+    Lfe = 0,
+    Bed = 1,
+    Isf = 2,
+    Dynamic = 3,
 }
 
-// The number of the kind that a number names.
-pub fn kind_of(number: i16) -> i16
-    ensures { result ≡ kind_number (kind_of number) }
-{
-    if is_dynamic(number) { DYNAMIC } else { number }
+impl Kind {
+    // As a row holds it.
+    pub fn number(self) -> i16
+        ensures { result ≡ kind_number (kind_said self) }
+    {
+        self as i16
+    }
+
+    pub fn is_dynamic(self) -> bool
+        ensures { result ≡ is_dynamic (kind_said self) }
+    {
+        self == Kind::Dynamic
+    }
 }
 
-#[derive(Clone, Copy)]
+impl From<i16> for Kind {
+    ghost from_gives = { λ number kind. kind_said kind ≡ kind_of number };
+
+    // A number that is no kind's is read as a Dynamic.
+    #[tactic(auto, unfolding(crate::specs::Kinds::kind_of))]
+    fn from(number: i16) -> Kind {
+        match number {
+            0 => Kind::Lfe,
+            1 => Kind::Bed,
+            2 => Kind::Isf,
+            _ => Kind::Dynamic,
+        }
+    }
+}
+
+#[derive(Clone, Copy, PartialEq, Eq)]
 pub struct Point {
     pub x: i16,
     pub y: i16,
     pub z: i16,
 }
 
-#[derive(Clone, Copy)]
+#[derive(Clone, Copy, PartialEq, Eq)]
 pub struct Zone {
     pub zone: i16,
     pub elevation: i16,
 }
 
-#[derive(Clone, Copy)]
+#[derive(Clone, Copy, PartialEq, Eq)]
 pub struct Size {
     pub width: i16,
     pub depth: i16,
@@ -57,7 +71,7 @@ pub struct Size {
 }
 
 // Point and distance are the paper's position. As one struct they would be moved as eight bytes, and taken apart again.
-#[derive(Clone, Copy)]
+#[derive(Clone, Copy, PartialEq, Eq)]
 pub struct Picture {
     pub point: Point,
     pub distance: i16,
@@ -67,6 +81,7 @@ pub struct Picture {
     pub lock: i16,
 }
 
+// The kind is a number, since a lent row may hold one that is no kind's.
 #[derive(Clone, Copy)]
 pub struct Row {
     pub kind: i16,
@@ -77,6 +92,7 @@ pub struct Row {
     pub mark: i16,
 }
 
+#[tactic(auto, unfolding(standard::specs::Rows::default_picture))]
 pub fn default_picture() -> Picture
     ensures { picture_said result ≡ default_picture }
 {
@@ -101,87 +117,65 @@ pub fn default_picture() -> Picture
     }
 }
 
-fn point_of(part: &[i16]) -> Point
-    requires { length part.now ≡ row_width }
-    ensures { point_said result ≡ (row_of part.now).picture.position.point }
-{
-    Point {
-        x: part[X],
-        y: part[Y],
-        z: part[Z],
+impl From<&[i16; ROW_WIDTH]> for Row {
+    ghost from_gives = { λ part row. row_said row ≡ row_of part.now };
+
+    #[tactic(auto, unfolding(standard::specs::Tables::row_of))]
+    fn from(part: &[i16; ROW_WIDTH]) -> Row {
+        let picture = Picture {
+            point: Point {
+                x: part[X],
+                y: part[Y],
+                z: part[Z],
+            },
+            distance: part[DISTANCE],
+            zone: Zone {
+                zone: part[ZONE],
+                elevation: part[ELEVATION],
+            },
+            size: Size {
+                width: part[WIDTH],
+                depth: part[DEPTH],
+                height: part[HEIGHT],
+            },
+            screen: part[SCREEN],
+            lock: part[LOCK],
+        };
+        Row {
+            kind: part[KIND],
+            active: part[ACTIVE],
+            gain: part[GAIN],
+            priority: part[PRIORITY],
+            picture,
+            mark: part[MARK],
+        }
     }
 }
 
-fn zone_of(part: &[i16]) -> Zone
-    requires { length part.now ≡ row_width }
-    ensures { zone_said result ≡ (row_of part.now).picture.zone }
-{
-    Zone {
-        zone: part[ZONE],
-        elevation: part[ELEVATION],
-    }
-}
+// In the order of a table.
+impl From<Row> for [i16; ROW_WIDTH] {
+    ghost from_gives = { λ row numbers. numbers ≡ row_numbers (row_said row) };
 
-fn size_of(part: &[i16]) -> Size
-    requires { length part.now ≡ row_width }
-    ensures { size_said result ≡ (row_of part.now).picture.size }
-{
-    Size {
-        width: part[WIDTH],
-        depth: part[DEPTH],
-        height: part[HEIGHT],
+    #[tactic(auto, using(crate::proofs::Tests::back), unfolding(standard::specs::Tables::row_numbers))]
+    fn from(row: Row) -> [i16; ROW_WIDTH] {
+        let picture = row.picture;
+        [
+            row.kind,
+            row.active,
+            row.gain,
+            row.priority,
+            picture.point.x,
+            picture.point.y,
+            picture.point.z,
+            picture.size.width,
+            picture.size.depth,
+            picture.size.height,
+            picture.screen,
+            picture.lock,
+            picture.zone.zone,
+            picture.zone.elevation,
+            picture.distance,
+            row.mark,
+        ]
     }
-}
-
-fn picture_of(part: &[i16]) -> Picture
-    requires { length part.now ≡ row_width }
-    ensures { picture_said result ≡ (row_of part.now).picture }
-{
-    Picture {
-        point: point_of(part),
-        distance: part[DISTANCE],
-        zone: zone_of(part),
-        size: size_of(part),
-        screen: part[SCREEN],
-        lock: part[LOCK],
-    }
-}
-
-// The row that the numbers of a part are.
-pub fn row_of(part: &[i16]) -> Row
-    requires { length part.now ≡ row_width }
-    ensures { row_said result ≡ row_of part.now }
-{
-    Row {
-        kind: part[KIND],
-        active: part[ACTIVE],
-        gain: part[GAIN],
-        priority: part[PRIORITY],
-        picture: picture_of(part),
-        mark: part[MARK],
-    }
-}
-
-// The numbers of a row, in the order of a table.
-pub fn row_numbers(row: Row) -> [i16; ROW_WIDTH]
-    ensures { result ≡ row_numbers (row_said row) }
-{
-    [
-        row.kind,
-        row.active,
-        row.gain,
-        row.priority,
-        row.picture.point.x,
-        row.picture.point.y,
-        row.picture.point.z,
-        row.picture.size.width,
-        row.picture.size.depth,
-        row.picture.size.height,
-        row.picture.screen,
-        row.picture.lock,
-        row.picture.zone.zone,
-        row.picture.zone.elevation,
-        row.picture.distance,
-        row.mark,
-    ]
 }

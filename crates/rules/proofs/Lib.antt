@@ -1,3 +1,3 @@
--- The ways that the calls end, and determinacy.
+-- The ways that the calls by rule can end; callers cite Determined.
 pub mod Answers
 pub mod Determined

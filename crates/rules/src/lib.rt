@@ -1,5 +1,5 @@
 // The calls by rule: the timing test, the ramp choice, and what goes over a frame's end.
-#![tactic(auto)]
+#![tactic(auto, unfolding(standard::specs::Numbers::computed, standard::specs::Carried::computed, standard::specs::CarriedCalls::computed))]
 
 pub mod calls;
-mod numbers;
+mod rule;

@@ -1,13 +1,12 @@
 -- Determinacy, of the call's own `ensures`: two answers that meet it for one entry are equal.
-use mathlib.Core.Path.{◌≡◌, refl, sym, ◌∙◌}
-use mathlib.Core.Bool.{true≢false, false≢true}
+use Rattle.std.proofs.Common.{◌≡◌, refl, sym, ◌∙◌, ap, Result, Ok, Err}
+use Rattle.bits.specs.declared.refusals.Fault.{Fault}
+use Rattle.rows.proofs.Faults.{same_fault, not_accepted}
 use Rattle.rows.proofs.Determined.{Determines}
 use Rattle.shown.specs.declared.view.Gain.{Gain}
 use Rattle.shown.specs.declared.view.Gain.TheVariants.{Silence, Decibels}
 use Rattle.shown.specs.declared.view.Shown.{Shown}
-use Rattle.shown.specs.declared.view.View.{View}
-use Rattle.shown.specs.declared.view.View.TheVariants.{Row, Refused}
-use Rattle.shown.specs.Say.{gain_said, shown_said, view_said, is_row}
+use Rattle.shown.specs.Say.{gain_said, shown_said, view_said}
 use Rattle.shown.proofs.calls.shown.Reads as shown
 
 same-gain : (g g' : Gain) → gain_said g ≡ gain_said g' → g ≡ g'
@@ -30,12 +29,12 @@ same-shown s s' e =
       gain = gain i;
     }
 
--- what an answer says, and which case it is, tell the answer
-same_view : (v v' : View) → is_row v ≡ is_row v' → view_said v ≡ view_said v' → v ≡ v'
-same_view (Row s) (Row s') k e = let shown = same-shown s s' (λ i. (e i).shown) in λ i. Row (shown i)
-same_view (Row s) (Refused n) k e = absurd (true≢false k)
-same_view (Refused n) (Row s) k e = absurd (false≢true k)
-same_view (Refused n) (Refused n') k e = λ i. Refused (e i).number
+-- what an answer says tells the answer
+same_view : (r r' : Result Shown Fault) → view_said r ≡ view_said r' → r ≡ r'
+same_view (Ok s) (Ok s') e = let shown = same-shown s s' (λ i. (e i).shown) in λ i. Ok (shown i)
+same_view (Ok s) (Err f) e = absurd (not_accepted f (λ i. (sym e i).number))
+same_view (Err f) (Ok s) e = absurd (not_accepted f (λ i. (e i).number))
+same_view (Err f) (Err g) e = ap Err (same_fault f g (λ i. (e i).number))
 
-pub shown-determined : Determines shown.Post (λ κs v s. v)
-shown-determined κs a v v' s s' p q = same_view v v' (p.shows ∙ sym q.shows) (p.says ∙ sym q.says)
+pub shown-determined : Determines shown.Post (λ κs r s. r)
+shown-determined κs a r r' s s' p q = same_view r r' (p.says ∙ sym q.says)

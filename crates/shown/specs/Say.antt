@@ -1,13 +1,13 @@
 -- What the code's gains, views and answers say: the paper's records.
-use Rattle.std.specs.Prelude.{Bool, true, false}
+use Rattle.std.specs.Prelude.{Result, Ok, Err}
+use Rattle.bits.specs.declared.refusals.Fault.{Fault}
+use Rattle.bits.specs.Faults.{fault_number}
 use Rattle.standard.specs.Shown as paper
 use Rattle.standard.specs.Numbers.{accepted}
 use Rattle.standard.specs.Calls.{ShownAnswer}
 use Rattle.shown.specs.declared.view.Gain.{Gain}
 use Rattle.shown.specs.declared.view.Gain.TheVariants.{Silence, Decibels}
 use Rattle.shown.specs.declared.view.Shown.{Shown}
-use Rattle.shown.specs.declared.view.View.{View}
-use Rattle.shown.specs.declared.view.View.TheVariants.{Row, Refused}
 
 abbrev pub gain_said : Gain → paper.Gain
 gain_said Silence = paper.silent
@@ -27,10 +27,6 @@ shown_said s =
     }
 
 -- on a refusal every float is 0, and the gain silence
-abbrev pub view_said : View → ShownAnswer
-view_said (Row s) = record { number = accepted; shown = shown_said s }
-view_said (Refused n) = record { number = n; shown = paper.nothing_shown }
-
-abbrev pub is_row : View → Bool
-is_row (Row s) = true
-is_row (Refused n) = false
+abbrev pub view_said : Result Shown Fault → ShownAnswer
+view_said (Ok s) = record { number = accepted; shown = shown_said s }
+view_said (Err f) = record { number = fault_number f; shown = paper.nothing_shown }

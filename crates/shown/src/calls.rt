@@ -2,19 +2,15 @@
 ghost use Rattle.standard.specs.Calls.{shown_call};
 ghost use Rattle.shown.specs.Promises.{Viewed};
 
-use crate::view::{View, shown_of};
+use crate::view::Shown;
+use bits::Fault;
 use rows::calls::row_part;
-use rows::numbers::ACCEPTED;
-use rows::row::row_of;
+use rows::row::Row;
 
-// A part with number 0 is a whole row.
-pub fn shown(table: &[i16], index: usize) -> View
+#[tactic(auto, unfolding(standard::specs::Calls::part_call, standard::specs::Calls::shown_call))]
+pub fn shown(table: &[i16], index: usize) -> Result<Shown, Fault>
     ensures { Viewed (shown_call table.now index) result }
 {
-    let mut number = ACCEPTED;
-    let part = row_part(table, index, &mut number);
-    if number != ACCEPTED {
-        return View::Refused(number);
-    }
-    View::Row(shown_of(row_of(part)))
+    let part = row_part(table, index)?;
+    Ok(Shown::from(Row::from(part)))
 }

@@ -6,8 +6,9 @@ ghost use Rattle.shown.specs.Say.{gain_said, shown_said};
 ghost use Rattle.shown.specs.Promises.{Stands};
 
 use rows::numbers::{HEIGHT_LIMIT, PRIORITY_LIMIT, SIDE_LIMIT, SILENCE, SIZE_LIMIT};
-use rows::row::{LFE, Row};
+use rows::row::{Kind, Row};
 
+// Silence is a gain of its own, as in the paper, and not one that is missing: so no Option.
 #[derive(Clone, Copy)]
 pub enum Gain {
     Silence,
@@ -26,13 +27,6 @@ pub struct Shown {
     pub gain: Gain,
 }
 
-// What is shown of a row, or why there is nothing.
-#[derive(Clone, Copy)]
-pub enum View {
-    Row(Shown),
-    Refused(u32),
-}
-
 #[derive(Clone, Copy)]
 struct Place {
     x: f32,
@@ -44,7 +38,7 @@ struct Place {
 fn place_of(row: Row) -> Place
     ensures { Stands (shown (row_said row)) result }
 {
-    if row.kind == LFE {
+    if row.kind == Kind::Lfe.number() {
         return Place {
             x: -1.0,
             y: 1.0,
@@ -59,29 +53,35 @@ fn place_of(row: Row) -> Place
     }
 }
 
-fn gain_of(gain: i16) -> Gain
-    ensures { gain_said result ≡ shown_gain gain }
-{
-    if gain == SILENCE {
-        return Gain::Silence;
+impl From<i16> for Gain {
+    ghost from_gives = { λ number gain. gain_said gain ≡ shown_gain number };
+
+    #[tactic(auto, using(rows::proofs::Tests::joins), unfolding(standard::specs::Shown::shown_gain))]
+    fn from(number: i16) -> Gain {
+        if number == SILENCE {
+            Gain::Silence
+        } else {
+            Gain::Decibels(number as f32)
+        }
     }
-    Gain::Decibels(gain as f32)
 }
 
-pub fn shown_of(row: Row) -> Shown
-    ensures { shown_said result ≡ shown (row_said row) }
-{
-    let place = place_of(row);
-    let size = row.picture.size;
-    let gain = gain_of(row.gain);
-    Shown {
-        x: place.x,
-        y: place.y,
-        z: place.z,
-        width: size.width as f32 / SIZE_LIMIT as f32,
-        depth: size.depth as f32 / SIZE_LIMIT as f32,
-        height: size.height as f32 / SIZE_LIMIT as f32,
-        priority: row.priority as f32 / PRIORITY_LIMIT as f32,
-        gain,
+impl From<Row> for Shown {
+    ghost from_gives = { λ row view. shown_said view ≡ shown (row_said row) };
+
+    #[tactic(auto, unfolding(standard::specs::Shown::shown))]
+    fn from(row: Row) -> Shown {
+        let place = place_of(row);
+        let size = row.picture.size;
+        Shown {
+            x: place.x,
+            y: place.y,
+            z: place.z,
+            width: size.width as f32 / SIZE_LIMIT as f32,
+            depth: size.depth as f32 / SIZE_LIMIT as f32,
+            height: size.height as f32 / SIZE_LIMIT as f32,
+            priority: row.priority as f32 / PRIORITY_LIMIT as f32,
+            gain: Gain::from(row.gain),
+        }
     }
 }

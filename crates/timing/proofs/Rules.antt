@@ -1,48 +1,31 @@
--- One turn of the timing test: a start that falls or rises, and a block that overlaps, crosses the frame's end, lies apart or follows.
-use Prim.Native.Nat.{ℕ, ◌≤◌, ◌<◌}
-use mathlib.Core.Path.{◌≡◌}
+-- The two tests of blocks by the walk that both are.
+use Prim.Native.Nat.{ℕ, ◌<◌}
+use mathlib.Core.Path.{◌≡◌, refl}
 use mathlib.Core.Bool.{Bool, true, false, ◌||◌}
-use mathlib.Core.List.{List, ◌∷◌}
-use borrow.Author.Tests.{lt-ltb, le-ltb, le-leb, lt-leb}
+use mathlib.Core.List.{List, [], ◌∷◌}
+use native.Mathlib.Omega.{arith}
+use borrow.Author.Tests.{ltb-true, lt-ltb}
 use lib.Dec.{ltb}
-use Rattle.standard.specs.Numbers.{frame_length, overlap, cross_frame}
+use Rattle.standard.specs.Numbers.{frame_length}
 use Rattle.standard.specs.Tree.{Timing}
-use Rattle.standard.specs.Timing.{end_of, rising, apart}
+use Rattle.standard.specs.Timing.{end_of, apart}
 use Rattle.standard.specs.Carried.{following}
+use Rattle.timing.specs.Blocks.{spaced}
 
--- start or end over the frame's length
-abbrev crossing : Timing → Bool
-crossing t = ltb frame_length t.start || ltb frame_length (end_of t)
+-- a block that starts past the frame ends past it
+crossing : (t : Timing) → (ltb frame_length t.start || ltb frame_length (end_of t)) ≡ ltb frame_length (end_of t)
+crossing t = go (ltb frame_length t.start) (ltb-true _ _)
+  where
+    go : (b : Bool) → (b ≡ true → frame_length < t.start) → (b || ltb frame_length (end_of t)) ≡ ltb frame_length (end_of t)
+    go true h = rw (lt-ltb frame_length (end_of t) (omega (arith, h refl)))
+    go false h = refl
 
-module _ (n : ℕ) (t : Timing) (ts : List Timing) where
-  pub falls : t.start < n → rising n (t ∷ ts) ≡ false
-  unfolding rising
-  falls h = rw (lt-leb n t.start h)
+pub apart-ends : (n : ℕ) (ts : List Timing) → spaced end_of n ts ≡ apart n ts
+unfolding spaced apart
+apart-ends n [] = refl
+apart-ends n (t ∷ ts) = rw (crossing t, apart-ends (end_of t) ts)
 
-  pub rises : n ≤ t.start → rising n (t ∷ ts) ≡ rising t.start ts
-  unfolding rising
-  rises h = rw (le-leb n t.start h)
-
-  pub overlaps : t.start < n → apart n (t ∷ ts) ≡ overlap
-  unfolding apart
-  overlaps h = rw (lt-ltb t.start n h)
-
-  pub crosses : n ≤ t.start → crossing t ≡ true → apart n (t ∷ ts) ≡ cross_frame
-  unfolding apart
-  crosses h e = rw (le-ltb t.start n h, e)
-
-  pub lies-apart : n ≤ t.start → crossing t ≡ false → apart n (t ∷ ts) ≡ apart (end_of t) ts
-  unfolding apart
-  lies-apart h e = rw (le-ltb t.start n h, e)
-
-  pub early : t.start < n → following n (t ∷ ts) ≡ overlap
-  unfolding following
-  early h = rw (lt-ltb t.start n h)
-
-  pub late : n ≤ t.start → frame_length < t.start → following n (t ∷ ts) ≡ cross_frame
-  unfolding following
-  late h k = rw (le-ltb t.start n h, lt-ltb frame_length t.start k)
-
-  pub follows : n ≤ t.start → t.start ≤ frame_length → following n (t ∷ ts) ≡ following (end_of t) ts
-  unfolding following
-  follows h k = rw (le-ltb t.start n h, le-ltb frame_length t.start k)
+pub following-starts : (n : ℕ) (ts : List Timing) → spaced (λ t. t.start) n ts ≡ following n ts
+unfolding spaced following
+following-starts n [] = refl
+following-starts n (t ∷ ts) = rw (following-starts (end_of t) ts)

@@ -1,44 +1,35 @@
--- A loop over the blocks of a timings table: what a rule says of all blocks is what it says of those left.
-use Prim.Native.Nat.{ℕ, suc, ◌+◌, ◌-◌, ◌*◌, ◌≤◌, ◌<◌}
-use mathlib.Core.Path.{◌≡◌, ◌∙◌}
-use mathlib.Core.List.{List, [], ◌∷◌}
-use native.Mathlib.Nat.{add-zero}
+-- A loop over a frame's blocks: what a rule says of all blocks is what it says of those left.
+use Prim.Native.Nat.{ℕ, ◌+◌, ◌≤◌, ◌<◌}
+use mathlib.Core.Path.{◌≡◌, refl, ◌∙◌}
+use mathlib.Core.List.{List, [], ◌∷◌, map}
+use native.Mathlib.Numerals.{add-one}
 use native.Mathlib.Omega.{arith}
-use lib.ListN.{drop}
-use lib.Seq.{drop-drop, get_or-drop}
+use lib.ListN.{length, get_or, drop}
+use lib.Seq.{drop-cons}
+use Rattle.std.proofs.lemmas.List.{drop_all}
 use Rattle.standard.specs.Tree.{Timing}
-use Rattle.standard.specs.Tables.{timings_of}
-use Rattle.timing.specs.Blocks.{timing_at}
+use Rattle.timing.specs.Blocks.{timing_of}
 
--- the blocks from block i on
-abbrev left : List ℕ → ℕ → ℕ → List Timing
-left l n i = timings_of (n - i) (drop (2 * i) l)
+-- the timings of the blocks from block i on
+abbrev left : List (List ℕ) → ℕ → List Timing
+left l i = map timing_of (drop i l)
 
--- a rule that began with the number m has come to the number k and to block i of n
-pub record Reached {R : Type 0} (rule : ℕ → List Timing → R) (m : ℕ) (l : List ℕ) (n k i : ℕ) : Type 0 where
-  pub within : i ≤ n
-  pub same : rule m (timings_of n l) ≡ rule k (left l n i)
+-- a rule that began with the number m has come to the number k and to block i
+pub record Reached {R : Type 0} (rule : ℕ → List Timing → R) (m : ℕ) (l : List (List ℕ)) (k i : ℕ) : Type 0 where
+  pub within : i ≤ length l
+  pub same : rule m (map timing_of l) ≡ rule k (left l i)
 
 module _ {R : Type 0} {rule : ℕ → List Timing → R} where
-  pub begin : (m : ℕ) (l : List ℕ) (n : ℕ) → Reached rule m l n m 0
-  begin m l n =
-      let e : n - 0 ≡ n = omega arith in
-      record { within = omega arith; same = rw e }
+  pub begin : (m : ℕ) (l : List (List ℕ)) → Reached rule m l m 0
+  begin m l = record { within = omega arith; same = refl }
 
-  module _ {m : ℕ} {l : List ℕ} {n k i : ℕ} (h : Reached rule m l n k i) where
+  module _ {m : ℕ} {l : List (List ℕ)} {k i : ℕ} (h : Reached rule m l k i) where
     -- at block i the rule decides
-    pub decided : {t : Timing} → t ≡ timing_at l i → i < n → {r : R} → rule k (t ∷ left l n (i + 1)) ≡ r → rule m (timings_of n l) ≡ r
-    unfolding timings_of
-    decided e more d =
-        let p : n - i ≡ suc (n - (i + 1)) = omega arith in
-        let q : 2 * i + 2 ≡ 2 * (i + 1) = omega arith in
-        h.same ∙ rw (p, get_or-drop (2 * i) l 0 0, add-zero, get_or-drop (2 * i) l 1 0, drop-drop, q, ← e) d
+    pub decided : {t : Timing} → t ≡ timing_of (get_or l i []) → i < length l → {r : R} → rule k (t ∷ left l (i + 1)) ≡ r → rule m (map timing_of l) ≡ r
+    decided e more d = h.same ∙ rw (drop-cons l i [] more, ← e) (rw (add-one i) at d)
 
-    pub onward : {t : Timing} → t ≡ timing_at l i → i < n → {k' : ℕ} → rule k (t ∷ left l n (i + 1)) ≡ rule k' (left l n (i + 1)) → Reached rule m l n k' (i + 1)
+    pub onward : {t : Timing} → t ≡ timing_of (get_or l i []) → i < length l → {k' : ℕ} → rule k (t ∷ left l (i + 1)) ≡ rule k' (left l (i + 1)) → Reached rule m l k' (i + 1)
     onward e more d = record { within = omega arith; same = decided e more d }
 
-    pub ended : n ≤ i → rule m (timings_of n l) ≡ rule k []
-    unfolding timings_of
-    ended none =
-        let e : n - i ≡ 0 = omega arith in
-        h.same ∙ rw e
+    pub ended : length l ≤ i → rule m (map timing_of l) ≡ rule k []
+    ended none = h.same ∙ rw (drop_all i l none)

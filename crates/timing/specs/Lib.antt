@@ -2,4 +2,5 @@
 pub mod Blocks
 pub mod Say
 pub mod Going
+pub mod Frames
 pub mod Promises

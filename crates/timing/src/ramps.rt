@@ -1,16 +1,15 @@
 // Between which rows a sample lies, and how far.
-ghost use Rattle.std.specs.Prelude.{◌≡◌, ◌*◌, ◌≤◌, ◌<◌, length};
-ghost use Rattle.standard.specs.Tables.{timings_of};
+ghost use Rattle.std.specs.Prelude.{◌≡◌, ◌<◌, cond, ltb, Ok, Err};
+ghost use Rattle.bits.specs.declared.refusals.Fault.TheVariants.{Query};
+ghost use Rattle.standard.specs.Numbers.{frame_length};
 ghost use Rattle.standard.specs.Ramps.{still, choice};
 ghost use Rattle.standard.specs.Carried.{rule2, choice_by};
-ghost use Rattle.standard.specs.CarriedCalls.{ramp_by_rule};
-ghost use Rattle.timing.specs.Say.{choice_said, going_said};
-ghost use Rattle.timing.specs.Promises.{Rounded, Ramped};
+ghost use Rattle.standard.specs.CarriedCalls.{ramp_under};
 
-use crate::carried::{Going, going_form};
-use crate::numbers::{CARRIED_ROW, QUERY, SAMPLES_PER_JOC_FRAME};
-use crate::updates::timing_at;
-use rows::numbers::{BLOCK_LIMIT, FORM, ROOM};
+use crate::carried::Going;
+use crate::numbers::{CARRIED_ROW, SAMPLES_PER_JOC_FRAME};
+use crate::updates::{OamdTiming, Timings};
+use bits::Fault;
 
 // From one row to another: row 0 is the start row, row b + 1 that of block b, and row 9 that of a carried ramp.
 #[derive(Clone, Copy)]
@@ -19,93 +18,101 @@ pub struct Choice {
     pub to: u32,
     pub elapsed: u16,
     pub duration: u16,
+    pub ghost lasts: { 0 < duration },
 }
 
-// A choice with its fraction, or why there is none.
+// A choice with its fraction.
 #[derive(Clone, Copy)]
-pub enum Ramp {
-    Chosen(Choice, f32),
-    Refused(u32),
+pub struct Ramp {
+    pub choice: Choice,
+    pub alpha: f32,
 }
 
-// A row that stands still: 1/1.
-fn still(row: u32) -> Choice
-    ensures { choice_said result ≡ still row }
-{
-    Choice {
-        from: row,
-        to: row,
-        elapsed: 1,
-        duration: 1,
-    }
-}
+impl Choice {
+    ghost use Rattle.timing.specs.Say.{choice_said};
+    ghost use Rattle.timing.specs.Promises.{Rounded};
 
-// When the walk comes to a block, the row before it stands still, and that row's number is the block's.
-pub fn choose(timings: &[u16], blocks: u32, sample: u16) -> Choice
-    requires { 2 * blocks ≤ length timings.now }
-    ensures { choice_said result ≡ choice sample (timings_of blocks timings.now) }
-{
-    for block in 0..blocks {
-        let timing = timing_at(timings, block);
-        if sample < timing.start_sample {
-            return still(block);
-        }
-        // A ramp of 0 is over at its start.
-        let elapsed = sample - timing.start_sample;
-        if elapsed < timing.ramp_duration {
-            return Choice {
-                from: block,
-                to: block + 1,
-                elapsed,
-                duration: timing.ramp_duration,
-            };
+    // A row that stands still: 1/1.
+    fn still(row: u32) -> Self
+        ensures { choice_said result ≡ still row }
+    {
+        Choice {
+            from: row,
+            to: row,
+            elapsed: 1,
+            duration: 1,
         }
     }
-    still(blocks)
-}
 
-// A carried ramp runs first. What has elapsed of it may pass u16, but not while it runs.
-fn choose_going(timings: &[u16], blocks: u32, sample: u16, going: Going) -> Choice
-    requires { 2 * blocks ≤ length timings.now }
-    ensures { choice_said result ≡ choice_by rule2 going.elapsed going.duration sample (timings_of blocks timings.now) }
-{
-    let elapsed = going.elapsed as u32 + sample as u32;
-    if elapsed < going.duration as u32 {
-        return Choice {
-            from: CARRIED_ROW,
-            to: 0,
-            elapsed: elapsed as u16,
-            duration: going.duration,
-        };
+    // The Rust ends its walk where this division is below 1: exactly where elapsed < duration.
+    pub fn fraction(self) -> f32
+        ensures { Rounded (choice_said self) result }
+    {
+        self.elapsed as f32 / self.duration as f32
     }
-    choose(timings, blocks, sample)
 }
 
 // A sample of the frame fits u16, as every start does.
-pub fn ramp_going(timings: &[u16], blocks: u32, sample: u32, going: Going) -> Ramp
-    ensures { Ramped (ramp_by_rule 2 timings.now blocks sample (going_said going)) result }
+pub fn sample_in_frame(sample: u32) -> Result<u16, Fault>
+    ensures { result ≡ cond (ltb sample frame_length) (Ok sample) (Err Query) }
 {
     if SAMPLES_PER_JOC_FRAME <= sample {
-        return Ramp::Refused(QUERY);
+        return Err(Fault::Query);
     }
-    if BLOCK_LIMIT < blocks as usize {
-        return Ramp::Refused(QUERY);
-    }
-    if timings.len() < 2 * blocks as usize {
-        return Ramp::Refused(ROOM);
-    }
-    if !going_form(going) {
-        return Ramp::Refused(FORM);
-    }
-    let choice = choose_going(timings, blocks, sample as u16, going);
-    let alpha = fraction(choice);
-    Ramp::Chosen(choice, alpha)
+    Ok(sample as u16)
 }
 
-// The Rust ends its walk where this division is below 1: exactly where elapsed < duration.
-pub fn fraction(choice: Choice) -> f32
-    requires { 0 < choice.duration }
-    ensures { Rounded (choice_said choice) result }
-{
-    choice.elapsed as f32 / choice.duration as f32
+impl Timings<'_> {
+    ghost use Rattle.timing.specs.Say.{choice_said, going_said};
+    ghost use Rattle.timing.specs.Promises.{Ramped};
+
+    pub fn ramp(&self, sample: u16, going: Option<Going>) -> Ramp
+        ensures { Ramped (ramp_under rule2 self.now (going_said going) sample) (Ok result) }
+    {
+        let choice = self.choose_going(sample, going);
+        let alpha = choice.fraction();
+        Ramp { choice, alpha }
+    }
+
+    // A carried ramp runs first. What has elapsed of it may pass u16, but not while it runs.
+    fn choose_going(&self, sample: u16, going: Option<Going>) -> Choice
+        ensures { let g = going_said going in choice_said result ≡ choice_by rule2 g.elapsed g.duration sample self.now }
+    {
+        if let Some(ramp) = going {
+            let elapsed = ramp.elapsed as u32 + sample as u32;
+            if elapsed < ramp.duration as u32 {
+                return Choice {
+                    from: CARRIED_ROW,
+                    to: 0,
+                    elapsed: elapsed as u16,
+                    duration: ramp.duration,
+                };
+            }
+        }
+        self.choose(sample)
+    }
+
+    // When the walk comes to a block, the row before it stands still, and that row's number is the block's.
+    pub fn choose(&self, sample: u16) -> Choice
+        ensures { choice_said result ≡ choice sample self.now }
+    {
+        for (row, block) in self.blocks.iter().enumerate() {
+            let row = row as u32;
+            let timing = OamdTiming::from(*block);
+            if sample < timing.start_sample {
+                return Choice::still(row);
+            }
+            // A ramp of 0 is over at its start.
+            let elapsed = sample - timing.start_sample;
+            if elapsed < timing.ramp_duration {
+                return Choice {
+                    from: row,
+                    to: row + 1,
+                    elapsed,
+                    duration: timing.ramp_duration,
+                };
+            }
+        }
+        Choice::still(self.blocks.len() as u32)
+    }
 }

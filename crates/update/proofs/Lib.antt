@@ -1,6 +1,5 @@
+pub mod Asking
 pub mod Numbers
-pub mod Bounds
+pub mod Wording
 pub mod Steps
-pub mod AskedWords
 pub mod MarkBits
-pub mod DynamicTests

@@ -1,17 +1,23 @@
 -- A mark's bits as the code has them: joined by `|`, and cut to five.
-use Prim.Native.Nat.{ℕ, zero, suc, ◌/◌, ◌%◌, ◌^◌, ◌≤◌}
+use Prim.Native.Nat.{ℕ, zero, suc, ◌+◌, ◌*◌, ◌/◌, ◌%◌, ◌^◌, ◌≤◌}
 use mathlib.Core.Path.{◌≡◌, refl, sym, ◌∙◌, ap}
-use mathlib.Core.Bool.{true, false, ◌||◌, false≢true}
+use mathlib.Core.Bool.{Bool, true, false, cond, ◌||◌}
 use native.Mathlib.Omega.{arith}
 use lib.Bits.{bit_or, or_shr, or_mod}
-use lib.Dec.{T, eqb, leb-suc-zero}
+use lib.Dec.{eqb}
 use lib.IntN.{ℤ, pos, negsuc, nat_abs}
-use lib.Signed.{lt_z, non_neg}
-use mir.Syntax.{w16, w32}
-use mir.Val.{Fits, SFits}
-use Rattle.standard.specs.Tree.{Render}
+use mir.Val.{bool_byte}
+use Rattle.std.specs.Prelude.{Option, Some, None, is_some}
+use Rattle.std.specs.Int.{int_max}
+use Rattle.std.proofs.lemmas.Int.{ints, clamps}
+use Rattle.standard.specs.Tree.{Render, given}
 use Rattle.standard.specs.Rows.{Group, its_position, its_zone, its_size, its_screen, its_lock}
-use Rattle.standard.specs.Marks.{marked, bits_of, settles, new_mark}
+use Rattle.standard.specs.Marks as marks
+use Rattle.standard.specs.Marks.{marked, bits_of, settles, new_mark, absolutely_said}
+use Rattle.rows.specs.Say.{zone_said, size_said}
+use Rattle.update.specs.declared.words.Placed.{Placed}
+use Rattle.update.specs.declared.words.Groups.{Groups}
+use Rattle.update.specs.Say.{number_said, asked_said, groups_said}
 use Rattle.standard.proofs.MarkLaws.{mark-none, bits-same, bits_back}
 
 -- one bit
@@ -48,17 +54,36 @@ pub word-bits : (r : Render) (n : ℕ) (m : ℤ) → ((g : Group) → marked g (
 unfolding new_mark
 word-bits r n m h = ap pos (bits-same (λ g. marked g (pos n) || marked g m) (λ g. settles g r || marked g m) (λ g. ap (λ x. x || marked g m) (h g)))
 
+-- The bits of the groups that are said
+
+flag-times : (b : Bool) (n : ℕ) → bool_byte b * n ≡ cond b n 0
+flag-times true n = omega arith
+flag-times false n = omega arith
+
+some-said : {A B : Type 0} (say : A → B) (o : Option (Placed A)) → marks.is_some (asked_said say o) ≡ is_some o
+some-said say None = refl
+some-said say (Some w) = refl
+
+pub group-bits : (w : Groups) →
+    bool_byte (absolutely_said (groups_said w).position) * 1 + bool_byte (is_some w.zone) * 2 + bool_byte (is_some w.size) * 4 + bool_byte (is_some w.screen) * 8 + 16
+    ≡ bits_of (λ g. settles g (given (groups_said w)))
+unfolding bits_of settles
+group-bits w =
+    rw (
+      flag-times (absolutely_said (groups_said w).position) 1,
+      flag-times (is_some w.zone) 2,
+      flag-times (is_some w.size) 4,
+      flag-times (is_some w.screen) 8,
+      some-said zone_said w.zone,
+      some-said size_said w.size,
+      some-said number_said w.screen,
+    )
+
 -- A number below 0 has no bits, and any other its own
+largest : (n : ℕ) → int_max (pos n) (pos 0) ≡ pos n
+largest n = omega (arith, ints, clamps)
 
-pub below_none : (z : ℤ) → lt_z z (pos 0) ≡ true → (g : Group) → marked g (pos 0) ≡ marked g z
+pub own-marked : (z : ℤ) (g : Group) → marked g (pos (nat_abs (int_max z (pos 0)))) ≡ marked g z
 unfolding marked
-below_none (pos n) h g = absurd (false≢true (sym (leb-suc-zero n) ∙ h))
-below_none (negsuc n) h g = mark-none g
-
-pub own-fits : (z : ℤ) → lt_z z (pos 0) ≡ false → SFits w16 z → T (non_neg z) × Fits w32 (nat_abs z)
-own-fits (pos n) h f = (tt, record { fits = let k = f.sfits in omega arith })
-own-fits (negsuc n) h f = absurd (false≢true (sym h))
-
-pub own_bits : (z : ℤ) → lt_z z (pos 0) ≡ false → pos (nat_abs z) ≡ z
-own_bits (pos n) h = refl
-own_bits (negsuc n) h = absurd (false≢true (sym h))
+own-marked (pos n) g = ap (λ z. marked g (pos (nat_abs z))) (largest n)
+own-marked (negsuc n) g = mark-none g

@@ -1,36 +1,34 @@
--- Numbers of 16 bits, and what a negated test tells.
-use Prim.Native.Nat.{ℕ, ◌+◌, ◌≤◌, ◌<◌}
-use mathlib.Core.Bool.{Bool, true, false, not}
-use mathlib.Core.Path.{◌≡◌, refl, sym, ◌∙◌, ap}
-use native.Mathlib.Omega.{arith}
-use borrow.Author.Tests.{not-true, not-false}
-use lib.Dec.{ltb}
-use lib.IntN.{ℤ, pos, sub_ℕ}
+-- Fields as numbers of 16 bits.
+use Rattle.std.proofs.Common.{◌≡◌, ℕ, ◌^◌, ◌<◌, ◌≤◌, Bool, true, false, cond, Ok, ℤ, pos, refl, ◌∙◌, arith}
 use lib.Signed.{mag}
+use lib.Pow.{pow_mono}
 use mir.Syntax.{w16}
-use mir.Val.{to_z, of_z}
+use mir.Val.{to_z, of_z, bool_byte}
 use mir.Facts.{to_z_pos}
+use Rattle.bits.specs.Reads.{read}
+use Rattle.bits.specs.Say.{Reads}
+use Rattle.bits.specs.declared.cursor.BitCursor.{BitCursor}
+use Rattle.standard.specs.Updates.{bit}
 use Rattle.rows.proofs.Tests.{back}
+use Rattle.bits.proofs.Fields.{read-lt}
+use Rattle.bits.proofs.Reading.{has}
 
 -- a small number is the same with a sign
-pub up : (n : ℕ) → n < 32768 → to_z w16 n ≡ pos n
-up n h = to_z_pos w16 h
+pub up : {n : ℕ} → n < 32768 → to_z w16 n ≡ pos n
+up h = to_z_pos w16 h
 
--- how large a difference of two naturals is
-pub mag-minus : (a b : ℕ) → mag (sub_ℕ a b) ≤ a + b
-mag-minus a b = go (ltb a b) refl
+module _ (w x : ℕ) {n : ℕ} {c c' : BitCursor} where
+  pub below : Reads (read w x) c (Ok n) c' → n < 2 ^ w
+  below h = has (read-lt w x) h
+
+  pub narrow : w ≤ 15 → Reads (read w x) c (Ok n) c' → to_z w16 n ≡ pos n
+  narrow le h = up (omega (arith, below h, pow_mono le))
+
+-- the number of a flag, as `From` gives it
+pub flag-bit : (b : Bool) {z : ℤ} → z ≡ pos (bool_byte b) → mag z < 32768 → to_z w16 (of_z w16 z) ≡ bit b
+unfolding bit
+flag-bit b is fits = back fits ∙ is ∙ go b
   where
-    go : (t : Bool) → ltb a b ≡ t → mag (sub_ℕ a b) ≤ a + b
-    go true e = rw e (omega arith)
-    go false e = rw e (omega arith)
-
--- two numbers of the same bits are the same
-pub same : {a b : ℤ} → mag a < 32768 → mag b < 32768 → of_z w16 a ≡ of_z w16 b → a ≡ b
-same h k e = sym (back h) ∙ ap (to_z w16) e ∙ back k
-
--- a negated test, of a flag that is asked for
-pub unset : {t u : Bool} → t ≡ u → not t ≡ true → u ≡ false
-unset e h = sym e ∙ not-true _ h
-
-pub set : {t u : Bool} → t ≡ u → not t ≡ false → u ≡ true
-set e h = sym e ∙ not-false _ h
+    go : (b : Bool) → pos (bool_byte b) ≡ cond b (pos 1) (pos 0)
+    go true = refl
+    go false = refl

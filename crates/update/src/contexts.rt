@@ -1,4 +1,5 @@
 // The context numbers of refusals, each named after its string in oamd.rs.
+// They are numbers and no enum: the reads of `bits` hand a context on, and know no syntax.
 pub const OBJECT_NOT_ACTIVE_FLAG: u8 = 47;
 
 pub const BASIC_INFO_STATUS: u8 = 48;

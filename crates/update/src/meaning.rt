@@ -1,67 +1,68 @@
 // What the words of one object in one block do to its row. It cannot refuse.
-ghost use Rattle.std.specs.Prelude.{◌≡◌, cond, ◌||◌, ◌<◌, ◌≤◌, pos, ◌+ℤ◌};
-ghost use Rattle.bits.specs.Bits.{is_set};
+ghost use Rattle.std.specs.Prelude.{◌≡◌, cond, ◌||◌, ◌<◌, ◌≤ℤ◌, pos, ◌+ℤ◌};
 ghost use Rattle.standard.specs.Tree.{given};
 ghost use Rattle.standard.specs.Rows.{Group};
 ghost use Rattle.standard.specs.Marks as marks;
 ghost use Rattle.standard.specs.Meaning as meaning;
-ghost use Rattle.rows.specs.Kinds.{kind_of};
-ghost use Rattle.rows.specs.Say.{point_said, zone_said, size_said, picture_said, row_said};
-ghost use Rattle.update.specs.Say.{gain_word_said, point_word_said, basic_said, groups_said, render_said, update_said};
+ghost use Rattle.rows.specs.Kinds.{kind_said};
+ghost use Rattle.rows.specs.Say.{point_said, picture_said, row_said};
+ghost use Rattle.update.specs.Say.{asked_said, word_or, gain_said, point_word_said, position_said, groups_said, render_said, update_said};
 
-use crate::words::{Basic, Groups, Render, Update};
-use bits::is_set;
+use crate::words::{GainWord, Groups, Placed, PointWord, PositionWord, Render, Update};
 use rows::numbers::{
     HEIGHT_LIMIT, LOCK_BIT, MARKS, POSITION_BIT, SCREEN_BIT, SETTLED, SIDE_LIMIT, SILENCE,
     SIZE_BIT, ZONE_BIT,
 };
-use rows::row::{Picture, Point, Row, Size, Zone, default_picture, is_dynamic, kind_of};
+use rows::row::{Kind, Picture, Point, Row, default_picture};
 
 // `row` is the row before; the previous gain is that of the preceding object in this block, 0 before object 0.
-pub fn apply(words: Update, kind: i16, previous_gain: i16, row: Row) -> Row
-    ensures { row_said result ≡ meaning.updated (kind_of kind) previous_gain (update_said words) (row_said row) }
+pub fn apply(words: Update, kind: Kind, previous_gain: i16, row: Row) -> Row
+    ensures { row_said result ≡ meaning.updated (kind_said kind) previous_gain (update_said words) (row_said row) }
 {
-    let dynamic = is_dynamic(kind);
-    let picture = row.picture;
+    let dynamic = kind.is_dynamic();
     match words {
         Update::Inactive(_) => Row {
-            kind: kind_of(kind),
+            kind: kind.number(),
             active: 0,
             gain: SILENCE,
             priority: 0,
-            picture,
+            picture: row.picture,
             mark: row_mark(dynamic, Render::Kept, row.mark),
         },
         Update::Active(basic, render) => Row {
-            kind: kind_of(kind),
+            kind: kind.number(),
             active: 1,
-            gain: new_gain(basic, previous_gain, row.gain),
-            priority: or_before(basic.flags, 0, basic.priority, row.priority),
-            picture: row_picture(dynamic, render, picture),
+            gain: new_gain(basic.gain, previous_gain, row.gain),
+            priority: or_before(basic.priority, row.priority),
+            picture: row_picture(dynamic, render, row.picture),
             mark: row_mark(dynamic, render, row.mark),
         },
     }
 }
 
 // What is said, or else what was before.
-fn or_before(flags: u32, bit: usize, said: i16, before: i16) -> i16
-    requires { bit < 32 }
-    ensures { result ≡ cond (is_set bit flags) «said» «before» }
+fn or_before<T: Copy>(said: Option<Placed<T>>, before: T) -> T
+    ensures { result ≡ word_or said before }
 {
-    if is_set(flags, bit) { said } else { before }
+    said.map_or(before, |placed| placed.word)
 }
 
-fn new_gain(basic: Basic, previous: i16, before: i16) -> i16
-    ensures { result ≡ meaning.new_gain «previous» (basic_said basic).gain «before» }
+fn new_gain(said: Option<Placed<GainWord>>, previous: i16, before: i16) -> i16
+    ensures { result ≡ meaning.new_gain previous (asked_said gain_said said) before }
 {
-    or_before(basic.flags, 1, gain_said(basic, previous), before)
+    match said {
+        None => before,
+        Some(gain) => gain_after(gain.word, previous),
+    }
 }
 
-fn gain_said(basic: Basic, previous: i16) -> i16
-    ensures { result ≡ meaning.gain_said «previous» (gain_word_said basic.copied basic.gain) }
+fn gain_after(gain: GainWord, previous: i16) -> i16
+    ensures { result ≡ meaning.gain_said previous (gain_said gain) }
 {
-    let copied = copied_gain(previous);
-    if basic.copied { copied } else { basic.gain }
+    match gain {
+        GainWord::Level(level) => level,
+        GainWord::Copied => copied_gain(previous),
+    }
 }
 
 // Silence is copied as 0 dB.
@@ -89,24 +90,35 @@ fn new_picture(groups: Groups, before: Picture) -> Picture
     ensures { picture_said result ≡ meaning.new_picture (given (groups_said groups)) (picture_said before) }
 {
     Picture {
-        point: new_point(groups, before.point),
-        // Steps move the point alone: a distance is said with them, too.
-        distance: or_before(groups.flags, 3, groups.distance, before.distance),
-        zone: new_zone(groups, before.zone),
-        size: new_size(groups, before.size),
-        screen: or_before(groups.flags, 0, groups.screen, before.screen),
-        lock: groups.lock,
+        zone: or_before(groups.zone, before.zone),
+        size: or_before(groups.size, before.size),
+        screen: or_before(groups.screen, before.screen),
+        lock: groups.lock.word,
+        ..moved(groups.position, before)
     }
 }
 
-fn new_point(groups: Groups, before: Point) -> Point
-    ensures { point_said result ≡ cond (is_set 3 groups.flags) (meaning.point_said (point_word_said groups.steps groups.point) (point_said before)) (point_said before) }
+// Steps move the point alone: a distance is said with them, too.
+fn moved(position: Option<Placed<PositionWord>>, before: Picture) -> Picture
+    ensures { picture_said result ≡ record (picture_said before) { position = meaning.new_position (asked_said position_said position) (picture_said before).position } }
 {
-    let said = is_set(groups.flags, 3);
-    if said & groups.steps {
-        return stepped(groups.point, before);
+    match position {
+        None => before,
+        Some(Placed { word, .. }) => Picture {
+            point: new_point(word.point, before.point),
+            distance: word.distance,
+            ..before
+        },
     }
-    if said { groups.point } else { before }
+}
+
+fn new_point(word: PointWord, before: Point) -> Point
+    ensures { point_said result ≡ meaning.point_said (point_word_said word) (point_said before) }
+{
+    match word {
+        PointWord::Absolute(point) => point,
+        PointWord::Moved(steps) => stepped(steps, before),
+    }
 }
 
 fn stepped(steps: Point, before: Point) -> Point
@@ -119,38 +131,12 @@ fn stepped(steps: Point, before: Point) -> Point
     }
 }
 
-// A step beyond an end stays there. The sum is taken at 32 bits, so that nothing is asked of either number.
+// A step beyond an end stays there. Nothing is asked of either number.
 fn step(coordinate: i16, by: i16, low: i16, high: i16) -> i16
+    requires { low ≤ℤ high }
     ensures { result ≡ meaning.clamp low high (coordinate +ℤ by) }
 {
-    let sum = (coordinate as i32) + (by as i32);
-    if sum < (low as i32) {
-        low
-    } else if (high as i32) < sum {
-        high
-    } else {
-        sum as i16
-    }
-}
-
-fn new_zone(groups: Groups, before: Zone) -> Zone
-    ensures { zone_said result ≡ meaning.or_before (groups_said groups).zone (zone_said before) }
-{
-    if is_set(groups.flags, 2) {
-        groups.zone
-    } else {
-        before
-    }
-}
-
-fn new_size(groups: Groups, before: Size) -> Size
-    ensures { size_said result ≡ meaning.or_before (groups_said groups).size (size_said before) }
-{
-    if is_set(groups.flags, 1) {
-        groups.size
-    } else {
-        before
-    }
+    coordinate.saturating_add(by).clamp(low, high)
 }
 
 // Fixed kinds are settled in every block.
@@ -171,31 +157,23 @@ fn row_mark(dynamic: bool, render: Render, before: i16) -> i16
 fn settled_by(groups: Groups) -> u32
     ensures { result ≡ marks.bits_of (λ g. marks.settles g (given (groups_said groups))) }
 {
-    let flags = groups.flags;
-    let position = bit_if(is_set(flags, 3) & !groups.steps, POSITION_BIT);
-    let zone = bit_if(is_set(flags, 2), ZONE_BIT);
-    let size = bit_if(is_set(flags, 1), SIZE_BIT);
-    let screen = bit_if(is_set(flags, 0), SCREEN_BIT);
-    let lock = bit_if(true, LOCK_BIT);
-    position + zone + size + screen + lock
+    let position = u32::from(is_placed(groups.position)) * POSITION_BIT;
+    let zone = u32::from(groups.zone.is_some()) * ZONE_BIT;
+    let size = u32::from(groups.size.is_some()) * SIZE_BIT;
+    let screen = u32::from(groups.screen.is_some()) * SCREEN_BIT;
+    position + zone + size + screen + LOCK_BIT
 }
 
-fn bit_if(said: bool, bit: u32) -> u32
-    ensures { (result ≡ cond said bit 0) × (result ≤ bit) }
+// Steps do not place the point.
+fn is_placed(position: Option<Placed<PositionWord>>) -> bool
+    ensures { result ≡ marks.absolutely_said (asked_said position_said position) }
 {
-    if said { bit } else { 0 }
+    position.is_some_and(|position| position.word.point.is_absolute())
 }
 
-// A bit that is set stays set.
+// A bit that is set stays set. A number below 0 is no mark.
 fn risen(bits: u32, before: i16) -> i16
     ensures { result ≡ pos (marks.bits_of (λ g. marks.marked g (pos bits) || marks.marked g «before»)) }
 {
-    ((bits | bits_of(before)) % MARKS) as i16
-}
-
-// A number below 0 is no mark.
-fn bits_of(mark: i16) -> u32
-    ensures { (g : Group) → marks.marked g (pos result) ≡ marks.marked g mark }
-{
-    if mark < 0 { 0 } else { mark as u32 }
+    ((bits | before.max(0) as u32) % MARKS) as i16
 }

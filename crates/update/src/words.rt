@@ -1,35 +1,58 @@
 // What can be said of one object in one block, as in the paper's tree: words, each with the bit place of its reading.
+ghost use Rattle.std.specs.Prelude.{◌≡◌};
+ghost use Rattle.standard.specs.Marks.{is_absolute};
+ghost use Rattle.update.specs.Say.{point_word_said};
+
 use bits::BitPlace;
 use rows::row::{Point, Size, Zone};
 
-// A flag tells whether a word was said, the gain first. One that was not is 0, and its place says nothing. A copied gain
-// is that of the object before.
 #[derive(Clone, Copy)]
-pub struct Basic {
-    pub flags: u32,
-    pub copied: bool,
-    pub gain: i16,
-    pub gain_at: BitPlace,
-    pub priority: i16,
-    pub priority_at: BitPlace,
+pub struct Placed<T> {
+    pub word: T,
+    pub at: BitPlace,
 }
 
-// Flags as above: position, zone, size, screen. A lock is always said. The position is a distance, and a point or steps.
+// A copied gain is that of the object before.
+#[derive(Clone, Copy)]
+pub enum GainWord {
+    Level(i16),
+    Copied,
+}
+
+#[derive(Clone, Copy)]
+pub struct Basic {
+    pub gain: Option<Placed<GainWord>>,
+    pub priority: Option<Placed<i16>>,
+}
+
+#[derive(Clone, Copy)]
+pub enum PointWord {
+    Absolute(Point),
+    Moved(Point),
+}
+
+impl PointWord {
+    pub fn is_absolute(self) -> bool
+        ensures { result ≡ is_absolute (point_word_said self) }
+    {
+        matches!(self, PointWord::Absolute(_))
+    }
+}
+
+#[derive(Clone, Copy)]
+pub struct PositionWord {
+    pub point: PointWord,
+    pub distance: i16,
+}
+
+// A lock is always said.
 #[derive(Clone, Copy)]
 pub struct Groups {
-    pub flags: u32,
-    pub distance: i16,
-    pub steps: bool,
-    pub point: Point,
-    pub position_at: BitPlace,
-    pub zone: Zone,
-    pub zone_at: BitPlace,
-    pub size: Size,
-    pub size_at: BitPlace,
-    pub screen: i16,
-    pub screen_at: BitPlace,
-    pub lock: i16,
-    pub lock_at: BitPlace,
+    pub position: Option<Placed<PositionWord>>,
+    pub zone: Option<Placed<Zone>>,
+    pub size: Option<Placed<Size>>,
+    pub screen: Option<Placed<i16>>,
+    pub lock: Placed<i16>,
 }
 
 // The default picture is said by the status at a place.

@@ -1,10 +1,6 @@
 -- The first channel and a second one are Lfe.
-use Prim.Native.Nat.{ℕ}
-use mathlib.Core.Logic.{◌⊎◌, inl, inr}
-use mathlib.Core.Path.{◌≡◌}
-use mathlib.Core.Bool.{true, ◌||◌}
-use borrow.Author.Tests.{eq-eqb, ne_eqb}
-use lib.Dec.{eqb}
+use Rattle.std.proofs.Common.{◌≡◌, ℕ, ◌⊎◌, inl, inr, true, ◌||◌, eqb}
+use Rattle.std.proofs.lemmas.Bool.{eq-eqb, ne_eqb}
 use Rattle.assignment.specs.Parts.{channel_kind}
 use Rattle.assignment.proofs.channels.channel_kind.Goals as goal
 

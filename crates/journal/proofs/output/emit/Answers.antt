@@ -1,15 +1,22 @@
--- A text of a line always has room where nothing waits.
-use Rattle.std.proofs.Common.{take, ◌∙◌, arith, length-take}
-use Rattle.journal.proofs.Waiting.{front-part, waits-behind, waits-alone}
+-- The line waits behind the others, or alone where they were written first: it has room there.
+use Rattle.std.proofs.Common.{◌≡◌, ℕ, ◌+◌, ◌≤◌, List, [], ◌++◌, length, ap, ◌∙◌, arith}
+use Rattle.journals.specs.Texts.{Appended, put, full}
 use Rattle.journal.proofs.output.emit.Goals as goal
+use Rattle.journal.proofs.output.emit.Goals.{then-room-text, else-room-text}
 
--- The line waits behind the others
-pub returns-then-next-waiting : goal.returns-then-next-waiting
-returns-then-next-waiting g c =
-    rw (c.part-text.ensures ∙ front-part c.args.line.now c.args.length) at (waits-behind c.append-next.ensures c.if-next-waiting.true)
+had-room : {l text m : List ℕ} → length l + length text ≤ 65536 → Appended 65536 l text m → m ≡ l ++ text
+had-room h (put k e) = e
+had-room h (full k e) = absurd (omega arith)
 
--- It waits alone
 pub returns : goal.returns
 returns g c =
-    let text = c.part-text.ensures ∙ front-part c.args.line.now c.args.length in
-    rw text at (waits-alone c.append.ensures (rw text (omega (arith, length-take c.args.length c.args.line.now))) (take c.args.waiting c.args.lines.now))
+    let text = c.as_bytes-text.ensures in
+    elim c.if-room-text.branch [
+      | then-room-text w ↦
+          let empty = ap length (w.lines-is ∙ w.flush.ensures) in
+          let said = had-room (omega (arith, empty, text.short)) c.append.ensures in
+          record { handed = c.args.lines.now; same = ap (λ (t : List ℕ). c.args.lines.now ++ t) (said ∙ rw (w.lines-is, w.flush.ensures, text.bytes)) }
+      | else-room-text w ↦
+          let said = had-room (omega (arith, ap length w.lines-is, c.room.ensures, w.if-room-text.false)) c.append.ensures in
+          record { handed = []; same = said ∙ rw (w.lines-is, text.bytes) }
+    ]

@@ -13,6 +13,3 @@ returns-in-Torn c = rw c.in-Torn.is c.put_count-in-Torn.ensures
 pub returns-in-BadMark : goal.returns-in-BadMark
 unfolding last_line
 returns-in-BadMark c = rw c.in-BadMark.is c.put_count-in-BadMark.ensures
-
-pub returns-in-Fault : goal.returns-in-Fault
-returns-in-Fault c = rw c.in-Fault.is c.put_count-in-Fault.ensures

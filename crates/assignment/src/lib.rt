@@ -1,7 +1,7 @@
 // From the payload's version to the kinds of its objects.
 #![tactic(auto)]
 
-ghost use Rattle.std.specs.Prelude.{◌≡◌, ◌<◌, map, length};
+ghost use Rattle.std.specs.Prelude.{◌≡◌, ◌<◌, OnErr, map, length};
 ghost use Rattle.bits.specs.Say.{Reads, ReadsAs};
 ghost use Rattle.rows.specs.Kinds.{kind_said};
 ghost use Rattle.standard.specs.Assignment as paper;
@@ -19,21 +19,26 @@ mod contexts;
 mod kinds;
 
 pub fn read_version(bits: &mut BitCursor) -> Result<(), Refusal>
-    ensures { Reads paper.version bits.old result bits.new }
+    ensures reads { Reads paper.version bits.old result bits.new }
+    ensures stays { OnErr result (bits.new ≡ bits.old) }
 {
     let at = bits.position;
-    let version = bits.read_extended(2, contexts::VERSION, 3, contexts::EXTENDED_VERSION)?;
+    let mut ahead = *bits;
+    let version = ahead.read_extended(2, contexts::VERSION, 3, contexts::EXTENDED_VERSION)?;
     if version != 0 {
         return Err(Refusal::unsupported(contexts::VERSION, at));
     }
+    *bits = ahead;
     Ok(())
 }
 
 pub fn read_object_count(bits: &mut BitCursor) -> Result<usize, Refusal>
-    ensures { Reads paper.object_count bits.old result bits.new }
+    ensures reads { Reads paper.object_count bits.old result bits.new }
+    ensures stays { OnErr result (bits.new ≡ bits.old) }
 {
     let at = bits.position;
-    let coded = bits.read_extended(
+    let mut ahead = *bits;
+    let coded = ahead.read_extended(
         5,
         contexts::OBJECT_COUNT,
         7,
@@ -43,26 +48,32 @@ pub fn read_object_count(bits: &mut BitCursor) -> Result<usize, Refusal>
     if object_count > OBJECT_LIMIT {
         return Err(Refusal::limit(contexts::OBJECT_COUNT, at));
     }
+    *bits = ahead;
     Ok(object_count)
 }
 
-// The kind of each object; there are as many as the lent places.
+// The kind of each object; there are as many as the lent places. A refusal may leave these half written.
 pub fn parse_program_assignment(bits: &mut BitCursor, kinds: &mut [Kind]) -> Result<(), Refusal>
     requires { 0 < length kinds.old }
-    ensures { ReadsAs (λ _. map kind_said kinds.new) (paper.assignment (length kinds.old)) bits.old result bits.new }
+    ensures reads { ReadsAs (λ _. map kind_said kinds.new) (paper.assignment (length kinds.old)) bits.old result bits.new }
+    ensures stays { OnErr result (bits.new ≡ bits.old) }
 {
     let at = bits.position;
-    if bits.read_flag(contexts::DYNAMIC_ONLY_PROGRAM_FLAG)? {
-        return parse_dynamic_only(bits, kinds);
+    let mut ahead = *bits;
+    if ahead.read_flag(contexts::DYNAMIC_ONLY_PROGRAM_FLAG)? {
+        parse_dynamic_only(&mut ahead, kinds)?;
+        *bits = ahead;
+        return Ok(());
     }
     let mut kinds = Kinds {
         table: kinds,
         count: 0,
     };
-    parse_contents(bits, &mut kinds)?;
+    parse_contents(&mut ahead, &mut kinds)?;
     if kinds.count != kinds.table.len() {
         return Err(Refusal::invalid(contexts::PROGRAM_ASSIGNMENT_OBJECT_COUNT, at));
     }
+    *bits = ahead;
     Ok(())
 }
 

@@ -1,6 +1,7 @@
 -- Reads in a row: what a read gives, and where it fails, through each way in which readings are put together.
 use Rattle.std.proofs.Common.{◌≡◌, ℕ, List, Bool, true, false, cond, refl, ap, sym, ◌∙◌, Result, Ok, Err, IsErrAnd, subst}
-use Rattle.std.specs.Result.{result_or}
+use Rattle.std.specs.Result.{is_err, result_or}
+use Rattle.std.proofs.lemmas.Bool.{false≢true}
 use Rattle.bits.specs.Parsed.{Parser, Refusal, refused, ◌>>=◌, ◌>>◌, map_p, pure, refuse, refused_as, require, here, the_end}
 use Rattle.bits.specs.Say.{said_by, ReadsBy}
 use Rattle.bits.specs.declared.cursor.BitCursor.{BitCursor}
@@ -87,6 +88,15 @@ module _ {V A E : Type 0} {say : V → A} {why : E → Refusal} {m : Parser A} {
   unfolding refused_as
   instead e (Ok a) h = record { answer = rw (← h.answer) refl; bytes = h.bytes; end = h.end }
   instead e (Err y) h = record { answer = rw (← h.answer) refl; bytes = h.bytes; end = h.end }
+
+  -- where m is refused, the answer says nothing of the place: the cursor may stand anywhere
+  pub anywhere : (e : E) {r : Result V E} {k : BitCursor} → HandsOn e r → k.payload ≡ c.payload → k.limit ≡ c.limit → ReadsBy say why m c r c' → ReadsBy say why m c r k
+  anywhere e {r = Ok a} x b l h = absurd x
+  anywhere e {r = Err y} x b l h = record { answer = h.answer; bytes = b; end = l }
+
+  pub put_back : (r : Result V E) {k : BitCursor} → is_err r ≡ true → k.payload ≡ c.payload → k.limit ≡ c.limit → ReadsBy say why m c r c' → ReadsBy say why m c r k
+  put_back (Ok a) x b l h = absurd (false≢true x)
+  put_back (Err y) x b l h = anywhere y refl b l h
 
   -- what a value that m gave has
   pub has : {P : A → Type 0} {a : V} → Always P m → ReadsBy say why m c (Ok a) c' → P (say a)

@@ -64,35 +64,47 @@ impl<'a> BitCursor<'a> {
         extra_context: u8,
     ) -> Result<u32, Refusal>
         requires { (width ≤ 17) × (extra ≤ 17) }
-        ensures { Reads (reads.extended width context (2 ^ width - 1) extra extra_context) self.old result self.new }
+        ensures reads { Reads (reads.extended width context (2 ^ width - 1) extra extra_context) self.old result self.new }
+        ensures stays { OnErr result (self.new ≡ self.old) }
     {
         let largest = two_to(width) - 1;
-        let head = self.read(width, context)?;
+        // Reads in a row go ahead on a copy: a refusal leaves the cursor where it was.
+        let mut ahead = *self;
+        let head = ahead.read(width, context)?;
         if head != largest {
+            *self = ahead;
             return Ok(head);
         }
-        let more = self.read(extra, extra_context)?;
+        let more = ahead.read(extra, extra_context)?;
+        *self = ahead;
         Ok(largest + more)
     }
 
     pub fn read_variable_bits_max(&mut self, width: usize, context: u8) -> Result<u32, Refusal>
         requires { width ≤ 4 }
-        ensures { Reads (reads.variable_bits width 3 context) self.old result self.new }
+        ensures reads { Reads (reads.variable_bits width 3 context) self.old result self.new }
+        ensures stays { OnErr result (self.new ≡ self.old) }
     {
         // A fifth group, and a later group that is cut short, are refused where the number begins.
         let limited = Refusal::limit(context, self.position);
         let span = two_to(width);
-        let mut value = self.read(width, context)?;
+        let mut ahead = *self;
+        let mut value = ahead.read(width, context)?;
         for _groups in 1..MAX_VARIABLE_BITS_GROUPS {
-            let another = self.read_flag(context)?;
+            let another = ahead.read_flag(context)?;
             if !another {
+                *self = ahead;
                 return Ok(value);
             }
-            let group = self.read(width, context).or(Err(limited))?;
+            let group = ahead.read(width, context).or(Err(limited))?;
             value = value * span + span + group;
         }
-        let more = self.read_flag(context)?;
-        if more { Err(limited) } else { Ok(value) }
+        let more = ahead.read_flag(context)?;
+        if more {
+            return Err(limited);
+        }
+        *self = ahead;
+        Ok(value)
     }
 
     pub fn skip(&mut self, count: u32, context: u8) -> Result<(), Refusal>
@@ -114,27 +126,33 @@ impl<'a> BitCursor<'a> {
 
     // A count of bytes less 1 in 4 bits, and so many bytes passed over.
     pub fn skip_bytes(&mut self, context: u8, data_context: u8) -> Result<(), Refusal>
-        ensures { Reads (reads.skip_bytes context data_context) self.old result self.new }
+        ensures reads { Reads (reads.skip_bytes context data_context) self.old result self.new }
+        ensures stays { OnErr result (self.new ≡ self.old) }
     {
-        let coded = self.read(4, context)?;
+        let mut ahead = *self;
+        let coded = ahead.read(4, context)?;
         let run = ByteCount(coded as usize + 1).bits();
-        self.skip(run.0 as u32, data_context)
+        ahead.skip(run.0 as u32, data_context)?;
+        *self = ahead;
+        Ok(())
     }
 
     // What is left of each byte is one field, so a turn goes on by a width. Only in the byte that has a 1 is its place sought.
     pub fn consume_zero_padding(&mut self, context: u8) -> Result<(), Refusal>
-        ensures { Reads (reads.padding context) self.old result self.new }
+        ensures reads { Reads (reads.padding context) self.old result self.new }
+        ensures stays { OnErr result (self.new ≡ self.old) }
     {
-        while self.position.0 < self.limit.0 {
-            let place = self.position.0;
+        let mut place = self.position.0;
+        while place < self.limit.0 {
             let width = (8 - place % 8).min(self.limit.0 - place);
             let rest = bits_from(self.payload, place, width);
             if rest != 0 {
                 let set = place + zeros_before(rest, width);
                 return Err(Refusal::invalid(context, BitPlace(set)));
             }
-            self.position = BitPlace(place + width);
+            place += width;
         }
+        self.position = BitPlace(place);
         Ok(())
     }
 }

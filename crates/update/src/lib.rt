@@ -1,6 +1,7 @@
 // One object in one block: the words that are said of it, and what they do to its row.
 #![tactic(auto)]
 
+ghost use Rattle.std.specs.Prelude.{◌≡◌, OnErr};
 ghost use Rattle.bits.specs.Say.{Reads, ReadsAs};
 ghost use Rattle.standard.specs.Updates as standard;
 ghost use Rattle.rows.specs.Kinds.{kind_said};
@@ -28,6 +29,18 @@ use words::Render;
 pub use words::Update;
 
 pub fn read_update(bits: &mut BitCursor, kind: Kind, first: bool) -> Result<Update, Refusal>
+    ensures reads { ReadsAs update_said (standard.update (kind_said kind) first) bits.old result bits.new }
+    ensures stays { OnErr result (bits.new ≡ bits.old) }
+{
+    let at = bits.position;
+    let answer = read_words(bits, kind, first);
+    if answer.is_err() {
+        bits.position = at;
+    }
+    answer
+}
+
+fn read_words(bits: &mut BitCursor, kind: Kind, first: bool) -> Result<Update, Refusal>
     ensures { ReadsAs update_said (standard.update (kind_said kind) first) bits.old result bits.new }
 {
     let at = bits.position;

@@ -1,7 +1,7 @@
 use Rattle.std.proofs.Common.{map, length, refl, arith}
 use lib.ListN.{length-map}
 use Rattle.bits.specs.Parsed.{map_p, ◌>>=◌}
-use Rattle.bits.proofs.Reading.{Leads, begins, turns, turn_stops, ends, then_as, stops_with, has}
+use Rattle.bits.proofs.Reading.{Leads, begins, turns, turn_stops, ends, then_as, stops_with, has, anywhere}
 use Rattle.standard.specs.Syntax.{object_element}
 use Rattle.standard.specs.Tables.{rows_of}
 use Rattle.rows.specs.Kinds.{kind_said}
@@ -20,23 +20,25 @@ begun : (c : Start) →
     (map_p (timed_by c.args.timings.now) block_timings >>= λ h. map_p (left h.count h.table) (objects_from n h.count c.args.start.now 0 ks c.args.blocks.now)) c.args.bits.now
 begun c = begins (λ s e p. element-read s e _ _ _ _ _ p (length-map c.args.kinds.now kind_said) c.requires.few c.requires.for_blocks)
 
-pub returns-in_err-block_count : goal.returns-in_err-block_count
-returns-in_err-block_count c =
-    element-left _ (turn_stops _ (begun (goal.at.returns-in_err-block_count c).Start) c.in_err-block_count.ensures.reads c.from_residual.ensures.1) untouched c.parse_block_timings.ensures.filled
+pub returns-in_err-block_count-clause-reads : goal.returns-in_err-block_count-clause-reads
+returns-in_err-block_count-clause-reads c =
+    let e = c.from_residual.ensures.1 in
+    element-left _ (anywhere _ e refl refl (turn_stops _ (begun (goal.at.returns-in_err-block_count-clause-reads c).Start) c.in_err-block_count.ensures.reads e)) untouched c.parse_block_timings.ensures.filled
 
 pub parse_objects-requires : goal.parse_objects-requires
 parse_objects-requires c =
     let u = fit _ _ (has (few-timed _) c.in_ok-block_count.ensures.reads) c.requires.few in
     (c.requires.its_start, omega (arith, u, c.requires.for_blocks))
 
-pub returns-in_err-parse_objects : goal.returns-in_err-parse_objects
-returns-in_err-parse_objects c =
+pub returns-in_err-parse_objects-clause-reads : goal.returns-in_err-parse_objects-clause-reads
+returns-in_err-parse_objects-clause-reads c =
     let u = fit _ _ (has (few-timed _) c.in_ok-block_count.ensures.reads) c.requires.few in
-    element-left _ (ends (turns _ (begun (goal.at.returns-in_err-parse_objects c).Start) c.in_ok-block_count.ensures.reads) (stops_with _ c.in_err-parse_objects.ensures.reads c.from_residual-in_err-parse_objects.ensures.1))
+    let e = c.from_residual-in_err-parse_objects.ensures.1 in
+    element-left _ (anywhere _ e refl refl (ends (turns _ (begun (goal.at.returns-in_err-parse_objects-clause-reads c).Start) c.in_ok-block_count.ensures.reads) (stops_with _ c.in_err-parse_objects.ensures.reads e)))
     (further untouched c.parse_objects.ensures.filled u) c.parse_block_timings.ensures.filled
 
-pub returns : goal.returns
-returns c =
+pub returns-clause-reads : goal.returns-clause-reads
+returns-clause-reads c =
     let u = fit _ _ (has (few-timed _) c.in_ok-block_count.ensures.reads) c.requires.few in
-    element-left _ (ends (turns _ (begun (goal.at.returns c).Start) c.in_ok-block_count.ensures.reads) (then_as _ refl c.in_ok-parse_objects.ensures.reads))
+    element-left _ (ends (turns _ (begun (goal.at.returns-clause-reads c).Start) c.in_ok-block_count.ensures.reads) (then_as _ refl c.in_ok-parse_objects.ensures.reads))
     (further untouched c.parse_objects.ensures.filled u) c.parse_block_timings.ensures.filled

@@ -1,39 +1,28 @@
-use Rattle.bits.specs.Parsed.{pure, ◌>>◌}
-use Rattle.standard.specs.Updates.{update, table_data}
-use Rattle.update.specs.declared.words.Update.TheVariants.{Inactive}
-use Rattle.update.specs.Say.{update_said}
-use Rattle.bits.proofs.Reading.{then, stops, next, next_stops, on_true, on_false, done, here_is}
+-- Where the words are refused, the place is put back.
+use Rattle.std.proofs.Common.{◌≡◌, false, Result, Ok, Err, refl, sym, ◌∙◌}
+use Rattle.std.specs.Prelude.{is_err, OnErr}
+use Rattle.std.proofs.lemmas.Bool.{false≢true}
+use Rattle.bits.proofs.Reading.{put_back}
 use Rattle.update.proofs.read_update.Goals as goal
-use Rattle.update.proofs.read_update.Goals.{then-inactive, else-inactive+in_ok-update}
 
-pub returns-in_err-inactive : goal.returns-in_err-inactive
-unfolding update
-returns-in_err-inactive c = then _ here_is (stops _ c.in_err-inactive.ensures.reads c.from_residual.ensures.1)
+module _ {V E : Type 0} (P : Type 0) where
+  either_way : (r : Result V E) → P → OnErr r P
+  either_way (Ok v) p = tt
+  either_way (Err e) p = p
 
-pub returns-in_err-update : goal.returns-in_err-update
-unfolding update
-returns-in_err-update c =
-    then _ here_is (then _ c.in_ok-inactive.ensures.reads (stops _ (on_false _ c.if-inactive.false c.in_err-update.ensures) c.from_residual-in_err-update.ensures.1))
+  accepted : (r : Result V E) → is_err r ≡ false → OnErr r P
+  accepted (Ok v) h = tt
+  accepted (Err e) h = absurd (false≢true (sym h))
 
-pub returns-in_err-skip_table_data : goal.returns-in_err-skip_table_data
-unfolding update
-returns-in_err-skip_table_data c =
-    let cut = c.from_residual-in_err-skip_table_data.ensures.1 in
-    then _ here_is (then _ c.in_ok-inactive.ensures.reads
-    elim c.if-inactive.branch [
-      | then-inactive w ↦
-          then {say = update_said} (λ u. table_data >> pure u) {a = Inactive c.args.bits.now.position} (on_true _ w.if-inactive.true done)
-          (next_stops _ (rw w.bits-is at c.in_err-skip_table_data.ensures) cut)
-      | else-inactive+in_ok-update w ↦ then _ (on_false _ w.if-inactive.false w.in_ok-update.ensures) (next_stops _ (rw w.bits-is at c.in_err-skip_table_data.ensures) cut)
-    ])
+pub returns-then-is_err-clause-reads : goal.returns-then-is_err-clause-reads
+returns-then-is_err-clause-reads c =
+    let h = c.read_words-answer.ensures in
+    put_back _ (sym c.is_err.ensures.value ∙ c.if-is_err.true) h.bytes h.end h
 
-pub returns : goal.returns
-unfolding update
-returns c =
-    then _ here_is (then _ c.in_ok-inactive.ensures.reads
-    elim c.if-inactive.branch [
-      | then-inactive w ↦
-          rw w.update-is (then {say = update_said} (λ u. table_data >> pure u) {a = Inactive c.args.bits.now.position} (on_true _ w.if-inactive.true done) (next (rw w.bits-is at c.in_ok-skip_table_data.ensures) done))
-      | else-inactive+in_ok-update w ↦
-          rw w.update-is (then _ (on_false _ w.if-inactive.false w.in_ok-update.ensures) (next (rw w.bits-is at c.in_ok-skip_table_data.ensures) done))
-    ])
+pub returns-then-is_err-clause-stays : goal.returns-then-is_err-clause-stays
+returns-then-is_err-clause-stays c =
+    let h = c.read_words-answer.ensures in
+    rw (h.bytes, h.end) (either_way (c.args.bits.now ≡ c.args.bits.now) _ refl)
+
+pub returns-else-is_err-clause-stays : goal.returns-else-is_err-clause-stays
+returns-else-is_err-clause-stays c = accepted _ _ (sym c.is_err.ensures.value ∙ c.if-is_err.false)

@@ -12,4 +12,4 @@ returns-then-not-branch c = then _ c.in_ok-read_flag.ensures.reads (on_false _ c
 
 pub returns : goal.returns
 unfolding table_data
-returns c = then _ c.in_ok-read_flag.ensures.reads (on_true _ c.if-not-branch.false c.skip_bytes.ensures)
+returns c = then _ c.in_ok-read_flag.ensures.reads (on_true _ c.if-not-branch.false c.skip_bytes.ensures.reads)

@@ -77,7 +77,7 @@ returns-in_err-skip_bytes c =
     let b = read-beds (goal.at.returns-in_err-skip_bytes c).Joined-is_set in
     let i = read-isfs (goal.at.returns-in_err-skip_bytes c).Joined-is_set-2 in
     let d = read-dynamics (goal.at.returns-in_err-skip_bytes c).Joined-is_set-3 in
-    stopped _ _ (then _ c.in_ok-content.ensures.reads (then _ b.reads (then _ i.reads (then _ d.reads (next_stops _ (on_true _ (sym c.is_set-4.ensures ∙ c.if-is_set-4.true) c.in_err-skip_bytes.ensures) e))))) e (d.filled.table ∙ i.filled.table ∙ b.filled.table)
+    stopped _ _ (then _ c.in_ok-content.ensures.reads (then _ b.reads (then _ i.reads (then _ d.reads (next_stops _ (on_true _ (sym c.is_set-4.ensures ∙ c.if-is_set-4.true) c.in_err-skip_bytes.ensures.reads) e))))) e (d.filled.table ∙ i.filled.table ∙ b.filled.table)
 
 pub returns-in_ok-skip_bytes : goal.returns-in_ok-skip_bytes
 unfolding contents
@@ -85,7 +85,7 @@ returns-in_ok-skip_bytes c =
     let b = read-beds (goal.at.returns-in_ok-skip_bytes c).Joined-is_set in
     let i = read-isfs (goal.at.returns-in_ok-skip_bytes c).Joined-is_set-2 in
     let d = read-dynamics (goal.at.returns-in_ok-skip_bytes c).Joined-is_set-3 in
-    adds (then _ c.in_ok-content.ensures.reads (then _ b.reads (then _ i.reads (then _ d.reads (next (on_true _ (sym c.is_set-4.ensures ∙ c.if-is_set-4.true) c.in_ok-skip_bytes.ensures) done))))) (and_then (and_then b.filled i.filled) d.filled)
+    adds (then _ c.in_ok-content.ensures.reads (then _ b.reads (then _ i.reads (then _ d.reads (next (on_true _ (sym c.is_set-4.ensures ∙ c.if-is_set-4.true) c.in_ok-skip_bytes.ensures.reads) done))))) (and_then (and_then b.filled i.filled) d.filled)
 
 pub returns-else-is_set-4 : goal.returns-else-is_set-4
 unfolding contents

@@ -22,6 +22,6 @@ returns-in_default c = unknown _ _ _ (omega (arith, c.in_default)) (omega (arith
 pub returns : goal.returns
 returns c =
     elim c.match-id.branch [
-      | in-1+in_ok-parse_object_content-in-1 w ↦ rw w.tables-is (object_ends _ _ _ w.in-1.is w.in_ok-parse_object_content-in-1.ensures (rw w.element-is at c.consume_zero_padding.ensures))
-      | in-2+in_ok-parse_trim_element-in-2 w ↦ rw w.tables-is (trim_ends _ _ _ w.in-2.is (rw length-map w.in_ok-parse_trim_element-in-2.ensures) (rw w.element-is at c.consume_zero_padding.ensures))
+      | in-1+in_ok-parse_object_content-in-1 w ↦ rw w.tables-is (object_ends _ _ _ w.in-1.is w.in_ok-parse_object_content-in-1.ensures (rw w.element-is at c.consume_zero_padding.ensures.reads))
+      | in-2+in_ok-parse_trim_element-in-2 w ↦ rw w.tables-is (trim_ends _ _ _ w.in-2.is (rw length-map w.in_ok-parse_trim_element-in-2.ensures) (rw w.element-is at c.consume_zero_padding.ensures.reads))
     ]

@@ -20,26 +20,26 @@ sized k h =
 
 pub returns-in_err-size_bits : goal.returns-in_err-size_bits
 unfolding element_end element_size
-returns-in_err-size_bits c = stops _ (stops_with {say' = λ n. n} (λ n. n + 1) {r = Err _} c.in_err-size_bits.ensures refl) c.from_residual.ensures.1
+returns-in_err-size_bits c = stops _ (stops_with {say' = λ n. n} (λ n. n + 1) {r = Err _} c.in_err-size_bits.ensures.reads refl) c.from_residual.ensures.1
 
 pub overflow_add-result : goal.overflow_add-result
-overflow_add-result c = omega (arith, sized _ c.in_ok-size_bits.ensures, c.bits-element_bits.ensures)
+overflow_add-result c = omega (arith, sized _ c.in_ok-size_bits.ensures.reads, c.bits-element_bits.ensures)
 
 pub overflow_sub-remained : goal.overflow_sub-remained
-overflow_sub-remained c = omega (arith, sized _ c.in_ok-size_bits.ensures)
+overflow_sub-remained c = omega (arith, sized _ c.in_ok-size_bits.ensures.reads)
 
 pub overflow_cast-element_bits : goal.overflow_cast-element_bits
-overflow_cast-element_bits c = omega (arith, sized _ c.in_ok-size_bits.ensures, c.bits-element_bits.ensures)
+overflow_cast-element_bits c = omega (arith, sized _ c.in_ok-size_bits.ensures.reads, c.bits-element_bits.ensures)
 
 pub overflow_cast-remained : goal.overflow_cast-remained
-overflow_cast-remained c = omega (arith, sized _ c.in_ok-size_bits.ensures)
+overflow_cast-remained c = omega (arith, sized _ c.in_ok-size_bits.ensures.reads)
 
 pub returns-then-element_bits-remained : goal.returns-then-element_bits-remained
 unfolding element_end element_size
 returns-then-element_bits-remained c =
-    then _ (then_with (λ n. n + 1) c.in_ok-size_bits.ensures) (then _ here_is (then _ end_is (fails _ (lt-leb _ _ (omega (arith, c.if-element_bits-remained.true, c.bits-element_bits.ensures))) (rw c.bits-element_bits.ensures at c.truncated.ensures))))
+    then _ (then_with (λ n. n + 1) c.in_ok-size_bits.ensures.reads) (then _ here_is (then _ end_is (fails _ (lt-leb _ _ (omega (arith, c.if-element_bits-remained.true, c.bits-element_bits.ensures))) (rw c.bits-element_bits.ensures at c.truncated.ensures))))
 
 pub returns : goal.returns
 unfolding element_end element_size
 returns c =
-    then _ (then_with (λ n. n + 1) c.in_ok-size_bits.ensures) (then _ here_is (then _ end_is (passes _ (le-leb _ _ (omega (arith, c.if-element_bits-remained.false, c.bits-element_bits.ensures))) (rw c.bits-element_bits.ensures (done {say = said_place})))))
+    then _ (then_with (λ n. n + 1) c.in_ok-size_bits.ensures.reads) (then _ here_is (then _ end_is (passes _ (le-leb _ _ (omega (arith, c.if-element_bits-remained.false, c.bits-element_bits.ensures))) (rw c.bits-element_bits.ensures (done {say = said_place})))))

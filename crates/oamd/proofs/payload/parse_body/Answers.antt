@@ -49,7 +49,7 @@ pub returns-in_err-consume_zero_padding : goal.returns-in_err-consume_zero_paddi
 unfolding body_in finish_in
 returns-in_err-consume_zero_padding c =
     record {
-      reads = then _ c.in_ok-alternate_data.ensures.reads (then _ c.in_ok-count.ensures (then _ (from_starts _ _ _ c.write_starts.ensures _ _ c.requires.1.nothing c.in_ok-parse_elements.ensures) (next_stops _ c.in_err-consume_zero_padding.ensures c.from_residual-in_err-consume_zero_padding.ensures.1)));
+      reads = then _ c.in_ok-alternate_data.ensures.reads (then _ c.in_ok-count.ensures (then _ (from_starts _ _ _ c.write_starts.ensures _ _ c.requires.1.nothing c.in_ok-parse_elements.ensures) (next_stops _ c.in_err-consume_zero_padding.ensures.reads c.from_residual-in_err-consume_zero_padding.ensures.1)));
       start_rest = rest_stays _ _ _ c.write_starts.ensures c.requires.0 c.requires.1.for_start;
       kept = c.in_ok-parse_elements.ensures.kept;
     }
@@ -74,7 +74,7 @@ pub returns-in_err-blocks : goal.returns-in_err-blocks
 unfolding body_in finish_in
 returns-in_err-blocks c =
     record {
-      reads = then _ c.in_ok-alternate_data.ensures.reads (then _ c.in_ok-count.ensures (then _ (from_starts _ _ _ c.write_starts.ensures _ _ c.requires.1.nothing c.in_ok-parse_elements.ensures) (next c.in_ok-consume_zero_padding.ensures
+      reads = then _ c.in_ok-alternate_data.ensures.reads (then _ c.in_ok-count.ensures (then _ (from_starts _ _ _ c.write_starts.ensures _ _ c.requires.1.nothing c.in_ok-parse_elements.ensures) (next c.in_ok-consume_zero_padding.ensures.reads
           (stops {say = λ k. k} _ {e = c.in_err-blocks.field-0.0} (none_found c.invalid-missing.result {r = Err _} c.in_err-blocks.ensures.ok_part c.in_err-blocks.ensures.value c.invalid-missing.ensures refl) c.from_residual-in_err-blocks.ensures.1))));
       start_rest = rest_stays _ _ _ c.write_starts.ensures c.requires.0 c.requires.1.for_start;
       kept = c.in_ok-parse_elements.ensures.kept;
@@ -84,7 +84,7 @@ pub returns : goal.returns
 unfolding body_in finish_in
 returns c =
     record {
-      reads = then _ c.in_ok-alternate_data.ensures.reads (then _ c.in_ok-count.ensures (then _ (from_starts _ _ _ c.write_starts.ensures _ _ c.requires.1.nothing c.in_ok-parse_elements.ensures) (next c.in_ok-consume_zero_padding.ensures
+      reads = then _ c.in_ok-alternate_data.ensures.reads (then _ c.in_ok-count.ensures (then _ (from_starts _ _ _ c.write_starts.ensures _ _ c.requires.1.nothing c.in_ok-parse_elements.ensures) (next c.in_ok-consume_zero_padding.ensures.reads
           (then {say = λ k. k} _ (one_found _ c.in_ok-blocks.ensures.ok_part) (given (rw (length-map, ← c.write_starts.ensures) refl))))));
       start_rest = rest_stays _ _ _ c.write_starts.ensures c.requires.0 c.requires.1.for_start;
       kept = c.in_ok-parse_elements.ensures.kept;

@@ -21,23 +21,23 @@ counted h = has count-form h
 
 pub returns-in_err-read_version : goal.returns-in_err-read_version
 unfolding payload_in
-returns-in_err-read_version c = record { reads = next_stops _ c.in_err-read_version.ensures c.from_residual.ensures.1; start_rest = refl; kept = kept }
+returns-in_err-read_version c = record { reads = next_stops _ c.in_err-read_version.ensures.reads c.from_residual.ensures.1; start_rest = refl; kept = kept }
 
 pub returns-in_err-object_count : goal.returns-in_err-object_count
 unfolding payload_in
 returns-in_err-object_count c =
-    record { reads = next c.in_ok-read_version.ensures (stops {say = λ k. k} _ (stops _ {r = Err _} c.in_err-object_count.ensures refl) c.from_residual-in_err-object_count.ensures.1); start_rest = refl; kept = kept }
+    record { reads = next c.in_ok-read_version.ensures.reads (stops {say = λ k. k} _ (stops _ {r = Err _} c.in_err-object_count.ensures.reads refl) c.from_residual-in_err-object_count.ensures.1); start_rest = refl; kept = kept }
 
 pub slice_bounds-kinds-end : goal.slice_bounds-kinds-end
-slice_bounds-kinds-end c = (counted c.in_ok-object_count.ensures).1
+slice_bounds-kinds-end c = (counted c.in_ok-object_count.ensures.reads).1
 
 pub slice_bounds-parse_program-end : goal.slice_bounds-parse_program-end
-slice_bounds-parse_program-end c = simp length-take (omega (arith, counted c.in_ok-object_count.ensures))
+slice_bounds-parse_program-end c = simp length-take (omega (arith, counted c.in_ok-object_count.ensures.reads))
 
 pub parse_program-requires : goal.parse_program-requires
 unfolding object_limit
 parse_program-requires c =
-    let n = counted c.in_ok-object_count.ensures in
+    let n = counted c.in_ok-object_count.ensures.reads in
     ((simp length-take (omega (arith, n)), simp length-take (omega (arith, n))), c.requires)
 
 -- readings in brackets
@@ -58,7 +58,7 @@ unfolding payload_in program_in
 returns c =
     let k = c.parse_program.ensures in
     record {
-      reads = next c.in_ok-read_version.ensures (regrouped _ _ _ (then {say = λ n. n} _ c.in_ok-object_count.ensures (part_of (λ n. assignment n >>= body_in (state_of c.args.held.table.now) (lending c.args.start.now c.args.tables.now)) _ _ (omega (arith, counted c.in_ok-object_count.ensures)) k.reads)));
+      reads = next c.in_ok-read_version.ensures.reads (regrouped _ _ _ (then {say = λ n. n} _ c.in_ok-object_count.ensures.reads (part_of (λ n. assignment n >>= body_in (state_of c.args.held.table.now) (lending c.args.start.now c.args.tables.now)) _ _ (omega (arith, counted c.in_ok-object_count.ensures.reads)) k.reads)));
       start_rest = k.start_rest;
       kept = k.kept;
     }

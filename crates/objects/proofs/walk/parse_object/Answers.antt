@@ -19,7 +19,7 @@ loop-block-init c = record {
 
 pub returns-in_err-words : goal.returns-in_err-words
 returns-in_err-words c = record {
-  reads = turn_stops _ (leads_to c.loop-block.invariant.leads (block_more _ _ _ _ _ _ _ c.loop-block-test.true)) c.in_err-words.ensures c.from_residual.ensures.1;
+  reads = turn_stops _ (leads_to c.loop-block.invariant.leads (block_more _ _ _ _ _ _ _ c.loop-block-test.true)) c.in_err-words.ensures.reads c.from_residual.ensures.1;
   filled = c.loop-block.invariant.filled;
 }
 
@@ -45,7 +45,7 @@ loop-block-preserved c =
     = rw (back {z = c.gain_before-gain.result} c.gain_before-gain.type_inv, c.gain_before-gain.ensures) at c.apply-row.ensures in
     rw (c.put_row.ensures, c.place.ensures, row)
     (record {
-      leads = turns _ (leads_to c.loop-block.invariant.leads (block_more _ _ _ _ _ _ _ c.loop-block-test.true)) c.in_ok-words.ensures;
+      leads = turns _ (leads_to c.loop-block.invariant.leads (block_more _ _ _ _ _ _ _ c.loop-block-test.true)) c.in_ok-words.ensures.reads;
       filled = put-within _ _ c.loop-block.invariant.filled room;
     })
 

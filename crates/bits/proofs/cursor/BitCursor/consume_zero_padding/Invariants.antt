@@ -3,12 +3,9 @@ use Rattle.std.proofs.Common.{◌≡◌, ◌-◌}
 use Rattle.bits.specs.Reads.{padding}
 use Rattle.bits.proofs.cursor.BitCursor.consume_zero_padding.Given as goal
 
-abbrev pub invariant-loop-self : goal.invariant-loop-self
-invariant-loop-self l = record {
-  rest : padding l.context l.self.payload.now l.self.limit.0 l.self.position.0 ≡ padding l.context l.initial.self.payload.now l.initial.self.limit.0 l.initial.self.position.0;
-  bytes : l.self.payload ≡ l.initial.self.payload;
-  end : l.self.limit ≡ l.initial.self.limit;
-}
+abbrev pub invariant-loop-place : goal.invariant-loop-place
+invariant-loop-place l =
+    padding l.context l.self.payload.now l.self.limit.0 l.place ≡ padding l.context l.fn.self.payload.now l.fn.self.limit.0 l.fn.self.position.0
 
-abbrev pub decreases-loop-self : goal.decreases-loop-self
-decreases-loop-self l = l.self.limit.0 - l.self.position.0
+abbrev pub decreases-loop-place : goal.decreases-loop-place
+decreases-loop-place l = l.self.limit.0 - l.place

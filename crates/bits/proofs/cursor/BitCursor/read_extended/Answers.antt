@@ -1,29 +1,31 @@
-use Rattle.std.proofs.Common.{arith, sym, ◌∙◌, ap, subst, ◌-◌}
-use Rattle.bits.specs.Reads.{read, extended}
-use Rattle.bits.specs.Say.{Reads}
+use Rattle.std.proofs.Common.{refl, arith, sym, ◌∙◌, ap, ◌-◌}
+use Rattle.bits.specs.Reads.{extended}
 use Rattle.std.proofs.lemmas.Bool.{eq-eqb, ne_eqb}
-use Rattle.bits.proofs.Reading.{then, stops, then_with, stops_with, on_true, on_false, done, has}
+use Rattle.bits.proofs.Reading.{then, stops, then_with, stops_with, on_true, on_false, done, has, anywhere}
 use Rattle.bits.proofs.Fields.{read-lt}
 use lib.Pow.{pow_mono}
 use Rattle.bits.proofs.cursor.BitCursor.read_extended.Goals as goal
 
-pub returns-in_err-head : goal.returns-in_err-head
+pub returns-in_err-head-clause-reads : goal.returns-in_err-head-clause-reads
 unfolding extended
-returns-in_err-head c = stops _ (subst (λ r. Reads (read c.args.width c.args.context) c.args.self.now r c.read.new.self) c.in_err-head.was c.read.ensures.reads) c.from_residual.ensures.1
+returns-in_err-head-clause-reads c =
+    let e = c.from_residual.ensures.1 in
+    anywhere _ e refl refl (stops _ c.in_err-head.ensures.reads e)
 
-pub returns-in_err-more : goal.returns-in_err-more
+pub returns-in_err-more-clause-reads : goal.returns-in_err-more-clause-reads
 unfolding extended
-returns-in_err-more c =
-    then _ c.in_ok-head.ensures.reads (on_true _ (eq-eqb _ _ (c.if-head-largest.false ∙ ap (λ n. n - 1) c.two_to-largest.ensures)) (stops_with _ c.in_err-more.ensures.reads c.from_residual-in_err-more.ensures.1))
+returns-in_err-more-clause-reads c =
+    anywhere _ c.from_residual-in_err-more.ensures.1 refl refl
+    (then _ c.in_ok-head.ensures.reads (on_true _ (eq-eqb _ _ (c.if-head-largest.false ∙ ap (λ n. n - 1) c.two_to-largest.ensures)) (stops_with _ c.in_err-more.ensures.reads c.from_residual-in_err-more.ensures.1)))
 
-pub returns : goal.returns
+pub returns-clause-reads : goal.returns-clause-reads
 unfolding extended
-returns c =
+returns-clause-reads c =
     rw (ap (λ n. n - 1) c.two_to-largest.ensures) (then _ c.in_ok-head.ensures.reads (on_true _ (eq-eqb _ _ (c.if-head-largest.false ∙ ap (λ n. n - 1) c.two_to-largest.ensures)) (then_with _ c.in_ok-more.ensures.reads)))
 
-pub returns-then-head-largest : goal.returns-then-head-largest
+pub returns-then-head-largest-clause-reads : goal.returns-then-head-largest-clause-reads
 unfolding extended
-returns-then-head-largest c =
+returns-then-head-largest-clause-reads c =
     then _ c.in_ok-head.ensures.reads (on_false _ (ne_eqb _ _ (λ e. c.if-head-largest.true (e ∙ sym (ap (λ n. n - 1) c.two_to-largest.ensures)))) done)
 
 pub overflow_add-result : goal.overflow_add-result

@@ -23,7 +23,7 @@ use Rattle.standard.specs.Carried.{last_timing}
 use Rattle.timing.specs.Blocks.{timing_of, last_said}
 
 -- the first n of k pairs
-pairs-timed : (n k : ℕ) (l : List ℕ) → n ≤ k → map timing_of (take n (first_chunks 2 k l)) ≡ timings_of n l
+pub pairs-timed : (n k : ℕ) (l : List ℕ) → n ≤ k → map timing_of (take n (first_chunks 2 k l)) ≡ timings_of n l
 unfolding timings_of
 pairs-timed zero k l h = refl
 pairs-timed (suc n) zero l h = absurd (omega arith)

@@ -1,8 +1,9 @@
 // The timings of a frame's updates, and the tests of them, as joc_renderer.rs has them.
-ghost use Rattle.std.specs.Prelude.{◌≡◌, ◌==◌, cond, length, option_map, ℕ};
+ghost use Rattle.std.specs.Prelude.{◌≡◌, ◌==◌, ◌*◌, ◌<◌, ◌≤◌, cond, get_or, length, option_map, ℕ};
 ghost use Rattle.bits.specs.Faults.{number_of};
 ghost use Rattle.standard.specs.Tree.{Timing};
 ghost use Rattle.standard.specs.Numbers.{accepted, ordering};
+ghost use Rattle.standard.specs.Tables.{timings_of};
 ghost use Rattle.standard.specs.Timing.{end_of, rising, apart, timing_test};
 ghost use Rattle.standard.specs.Carried.{rule2, following, timing_by};
 ghost use Rattle.timing.specs.Blocks.{timing_of, last_said, spaced};
@@ -78,6 +79,17 @@ impl<'a> Timings<'a> {
         Ok(Timings { blocks })
     }
 
+    // Of as many blocks as the table has pairs for: the limit is `new`'s alone.
+    pub fn first(table: &'a [u16], blocks: u32) -> Self
+        requires { 2 * blocks ≤ length table.now }
+        ensures { result ≡ timings_of blocks table.now }
+    {
+        let (pairs, _) = table.as_chunks::<2>();
+        Timings {
+            blocks: &pairs[..blocks as usize],
+        }
+    }
+
     pub fn len(&self) -> usize
         ensures { result ≡ length self.now }
     {
@@ -88,6 +100,14 @@ impl<'a> Timings<'a> {
         ensures { result ≡ (length self.now == 0) }
     {
         self.blocks.is_empty()
+    }
+
+    pub fn timing_at(&self, block: usize) -> OamdTiming
+        requires { block < length self.now }
+        ensures { (none : Timing) → timing_said result ≡ get_or self.now block none }
+    {
+        let pairs = self.blocks;
+        OamdTiming::from(pairs[block])
     }
 
     pub fn last(&self) -> Option<OamdTiming>
@@ -114,7 +134,7 @@ impl<'a> Timings<'a> {
     }
 
     // No start falls below the one before it.
-    fn starts_rise(&self) -> Result<(), Fault>
+    pub fn starts_rise(&self) -> Result<(), Fault>
         ensures { number_of result ≡ cond (rising 0 self.now) accepted ordering }
     {
         if !self.blocks.is_sorted_by_key(|block| block[0]) {

@@ -8,4 +8,5 @@ pub mod Parts
 pub mod Tests
 pub mod Keeping
 pub mod Faults
+pub mod Resets
 pub mod Determined

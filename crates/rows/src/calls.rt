@@ -23,7 +23,7 @@ pub fn programme_start(retained: &mut [i16]) -> Result<(), Fault>
 }
 
 // A programme may be under way: the same start, but in doubt.
-#[tactic(auto, using(std::proofs::lemmas::Bool::Decides::nat_tests), unfolding(standard::specs::Calls::programme_start, standard::specs::Calls::reset, standard::specs::Calls::renewed, standard::specs::Numbers::retained_length))]
+#[tactic(auto, using(crate::proofs::Resets::resets))]
 pub fn reset(retained: &mut [i16]) -> Result<(), Fault>
     ensures { Left (reset retained.old) result retained.new }
 {

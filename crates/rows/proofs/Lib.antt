@@ -1,4 +1,5 @@
--- Laws and the proofs that stand on several functions; callers cite Written, Puts, Parts, Rows, Tests, Keeping, Faults and Determined.
+-- Laws and the proofs that stand on several functions; callers cite KindLaws, Written, Puts, Parts, Rows, Tests, Keeping, Faults and Determined.
+pub mod KindLaws
 pub mod Lists
 pub mod Written
 pub mod Storing

@@ -1,13 +1,13 @@
 -- Laws of the tests of form: a number's bits, a number that is a count, and tests that are joined by `&`.
-use Prim.Native.Nat.{ℕ, suc, ◌-◌, ◌^◌, ◌<◌}
+use Prim.Native.Nat.{ℕ, suc, ◌-◌, ◌^◌, ◌≤◌, ◌<◌}
 use mathlib.Core.Path.{◌≡◌, refl, sym, ◌∙◌, ap}
 use mathlib.Core.Bool.{Bool, true, false, ◌&&◌, and_assoc, and-true, and-eq-true_iff, false≢true}
 use mathlib.Core.List.{List, [], ◌∷◌}
 use native.Mathlib.Omega.{arith}
-use borrow.Author.Tests.{eq-eqb, ne_eqb, eqb-true, eqb-false}
-use lib.Dec.{eqb}
-use lib.IntN.{ℤ, pos, negsuc}
-use lib.Signed.{mag}
+use borrow.Author.Tests.{eq-eqb, ne_eqb, eqb-true, eqb-false, leb-true}
+use lib.Dec.{T, eqb, leb}
+use lib.IntN.{ℤ, pos, negsuc, nat_abs}
+use lib.Signed.{mag, non_neg}
 use Rattle.std.proofs.lemmas.Bool.Decides.{nat_tests}
 use mir.Syntax.{w16}
 use mir.Val.{to_z, of_z}
@@ -16,7 +16,7 @@ use borrow.Author.Rules.{sfits_of}
 use Rattle.std.specs.Ordering.{int_eq}
 use Rattle.standard.specs.Numbers.{silence}
 use Rattle.standard.specs.Rows.{eqℤ, is, is_silent}
-use Rattle.standard.specs.Tables.{every}
+use Rattle.standard.specs.Tables.{every, between}
 
 -- A signed number in a local is its bits
 
@@ -41,6 +41,12 @@ bits_is n v k h = bits-same v (pos n) h k
 
 pub bits-silent : (v : ℤ) → mag v < 2 ^ 15 → eqb (of_z w16 v) (of_z w16 silence) ≡ is_silent v
 bits-silent v h = bits-same v silence h (omega arith)
+
+-- A number from 0 to h is a count of at most h
+
+pub between-nat : (h : ℕ) (z : ℤ) → between (pos 0) (pos h) z ≡ true → T (non_neg z) × (nat_abs z ≤ h)
+between-nat h (pos n) e = (tt, leb-true n h ((and-eq-true_iff (leb 0 n) (leb n h)).0 e).1)
+between-nat h (negsuc n) e = absurd (false≢true e)
 
 -- What a derived `==` asks of two numbers
 

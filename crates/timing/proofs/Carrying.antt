@@ -5,13 +5,13 @@ use mathlib.Core.Logic.{◌⊎◌, inl, inr}
 use mathlib.Core.Bool.{Bool, true, false, cond, ◌&&◌, ◌||◌, false≢true, and-eq-true_iff}
 use mathlib.Core.List.{List, []}
 use native.Mathlib.Omega.{arith}
-use borrow.Author.Tests.{eq-eqb, ne_eqb, eqb-true, ltb-true, leb-true}
+use borrow.Author.Tests.{eq-eqb, ne_eqb, eqb-true, eqb-false, ltb-true, leb-true}
 use lib.Dec.{ltb, leb, eqb}
 use lib.IntN.{ℤ}
 use Rattle.standard.specs.Numbers.{object_limit}
 use Rattle.standard.specs.Rows.{Row}
 use Rattle.standard.specs.Tables.{rows_of}
-use Rattle.standard.specs.Carried.{rule2, nothing, kinds_agree, taken_up}
+use Rattle.standard.specs.Carried.{rule2, Carried, nothing, kinds_agree, taken_up}
 use Rattle.standard.specs.CarriedCalls.{Going, dropped, carried_of, going_of, going_form, carried_form}
 use Rattle.rows.proofs.Rows.{length-rows_of}
 use Rattle.std.specs.Prelude.{Some}
@@ -35,6 +35,10 @@ module _ {A : Type 0} (f : Going → A) (g : Going) where
 pub whole-carried : (g : Going) (l : List ℤ) → carried_of (whole g) l ≡ carried_of g l
 unfolding carried_of
 whole-carried g l = whole_same (λ x. carried_of x l) g (λ e. rw (eq-eqb g.duration 0 e))
+
+pub whole-form : (g : Going) (l : List ℤ) → carried_form (whole g) l rule2 ≡ carried_form g l rule2
+unfolding carried_form going_form
+whole-form g l = whole_same (λ x. carried_form x l rule2) g (λ e. rw (eq-eqb g.duration 0 e))
 
 -- as many rows as the first number says
 pub rows-many : (g : Going) (l : List ℤ) → going_of (carried_of g l) ≡ whole g
@@ -64,6 +68,27 @@ form-means g = go (eqb g.duration 0) (ltb g.elapsed g.duration) (leb g.objects o
     go false true false a b c h = absurd (false≢true h)
     go false false f a b c h = absurd (false≢true h)
 
+whole-zero : (g : Going) → (whole g).duration ≡ 0 → whole g ≡ dropped
+unfolding whole
+whole-zero g = go (eqb g.duration 0) (eqb-false _ _)
+  where
+    go : (b : Bool) → (b ≡ false → g.duration ≡ 0 → ⊥) → (cond b dropped g).duration ≡ 0 → cond b dropped g ≡ dropped
+    go true k e = refl
+    go false k e = absurd (k refl e)
+
+-- then what remains is a number
+pub record Running (g : Going) : Type 0 where
+  pub left : g.elapsed ≤ g.duration
+  pub few : g.objects ≤ object_limit
+
+pub running : (g : Going) → going_form (whole g) rule2 ≡ true → Running (whole g)
+unfolding object_limit
+running g h = go (form-means (whole g) h)
+  where
+    go : ((whole g).duration ≡ 0) ⊎ (((whole g).elapsed < (whole g).duration) × ((whole g).objects ≤ object_limit)) → Running (whole g)
+    go (inl e) = rw (whole-zero g e) (record { left = omega arith; few = omega arith })
+    go (inr k) = record { left = omega (arith, k.0); few = k.1 }
+
 -- Taking up
 
 module _ (g : Going) (l : List ℤ) (rows : List Row) where
@@ -82,6 +107,14 @@ module _ (g : Going) (l : List ℤ) (rows : List Row) where
   pub taken-same : (g.duration ≡ 0 → ⊥) → kinds_agree (rows_of g.objects l) rows ≡ true → g ≡ going_of (taken_up rule2 (carried_of g l) rows)
   unfolding taken_up carried_of
   taken-same d e = rw (ne_eqb g.duration 0 d, e, length-rows_of)
+
+  pub taken-running : Running (whole g) → let c = taken_up rule2 (carried_of g l) rows in c.elapsed ≤ c.duration
+  unfolding taken_up nothing
+  taken-running h = go (kinds_agree (carried_of g l).rows rows)
+    where
+      go : (b : Bool) → let c : Carried = cond b (carried_of g l) nothing in c.elapsed ≤ c.duration
+      go true = (rw (← rows-many g l) at h).left
+      go false = omega arith
 
 -- the test whether a frame takes it decides
 pub taken-some : (x : code.Going) (l : List ℤ) (rows : List Row) (b : Bool) → b ≡ kinds_agree (rows_of x.objects l) rows

@@ -5,4 +5,5 @@ pub mod Rules
 pub mod Agreeing
 pub mod Carrying
 pub mod Over
+pub mod Uncarried
 pub mod Determined

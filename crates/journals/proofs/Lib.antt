@@ -4,6 +4,7 @@ pub mod Turning
 pub mod Putting
 pub mod Decimal
 pub mod AnswerTexts
+pub mod Keeping
 pub mod Printing
 pub mod Running
 pub mod Determined

@@ -3,5 +3,6 @@ pub mod Say
 pub mod Promises
 pub mod Turns
 pub mod Texts
+pub mod Buffers
 pub mod Prints
 pub mod Runs

@@ -8,6 +8,7 @@ use Rattle.journals.specs.Texts.{Appended, put, full}
 use Rattle.journals.specs.declared.records.Pause.{Pause}
 use Rattle.journals.specs.declared.prints.Printed.{Printed}
 use Rattle.journals.proofs.lines.put_line.Reads as put-line
+use Rattle.journals.proofs.lines.put_answer_line.Reads as put-answer-line
 use Rattle.journals.proofs.lines.put_last.Reads as put_last
 use Rattle.journals.proofs.texts.Text.append.Reads as text-append
 use Rattle.journals.proofs.buffers.part.Reads as part
@@ -18,6 +19,9 @@ use Rattle.journals.proofs.Determined.{End, ended, ended_is}
 
 pub put-line-determined : Determines put-line.Post (λ κs line s. line)
 put-line-determined κs a m m' s s' p q = p.left ∙ sym q.left
+
+pub put-answer-line-determined : Determines put-answer-line.Post (λ κs line s. line)
+put-answer-line-determined κs a m m' s s' p q = p.left ∙ sym q.left
 
 pub put-last-determined : Determines put_last.Post (λ κs line s. line)
 put-last-determined κs a m m' s s' p q = p.left ∙ sym q.left

@@ -18,6 +18,10 @@ pub data Appended (n : ℕ) (l text m : List ℕ) : Type 0 where
 abbrev pub reply_length : ℕ
 reply_length = 87
 
+-- nor a number and an offset
+abbrev pub head_length : ℕ
+head_length = 41
+
 -- and no line
 abbrev pub line_length : ℕ
 line_length = 129

@@ -1,13 +1,11 @@
 // Replies to lines of text.
 ghost use Rattle.std.specs.Prelude.{◌+◌, ◌≤◌, length, [], ◌∷◌, ◌++◌};
-ghost use Rattle.standard.specs.Journal.{spaced, reply_text, answer_text, line};
-ghost use Rattle.oamd.specs.Promises.{said_decoded};
-ghost use Rattle.journals.specs.Say.{said_reply};
-ghost use Rattle.journals.specs.Texts.{Puts, reply_length, line_length, ending_text};
+ghost use Rattle.standard.specs.Journal.{decimal, spaced, answered, reply_text, answer_text, line};
+ghost use Rattle.journals.specs.Say.{said_answer, said_reply};
+ghost use Rattle.journals.specs.Texts.{Puts, reply_length, head_length, line_length, ending_text};
 
-use crate::replies::Reply;
+use crate::replies::{ACCEPTED, Answer, Reply};
 use crate::texts::Text;
-use oamd::{DecodeError, Frame};
 
 // No line is longer: six numbers of 20 digits at most, six spaces, a word of two letters and the newline.
 pub const LINE_LENGTH: usize = 129;
@@ -27,10 +25,18 @@ pub enum Ending {
 pub fn put_line(number: u64, offset: u64, reply: Reply) -> Line
     ensures { Puts line_length [] (line number offset (said_reply reply)) result }
 {
-    let mut line = Line::new();
-    line.push_decimal(number);
-    line.push_numbers(&[offset]);
+    let mut line = put_head(number, offset);
     put_reply(&mut line, reply);
+    line.push(b"\n");
+    line
+}
+
+// The line of an answer whose numbers may come from no decoding.
+pub fn put_answer_line(number: u64, offset: u64, answer: Answer) -> Line
+    ensures { Puts line_length [] (line number offset (answered (said_answer answer))) result }
+{
+    let mut line = put_head(number, offset);
+    put_answer(&mut line, answer);
     line.push(b"\n");
     line
 }
@@ -47,45 +53,38 @@ pub fn put_last(records: u64, ending: Ending) -> Line
     }
 }
 
+// Each line of a record begins with its number and its offset.
+fn put_head(number: u64, offset: u64) -> Line
+    ensures { Puts head_length [] (decimal number ++ spaced (offset ∷ [])) result }
+{
+    let mut line = Line::new();
+    line.push_decimal(number);
+    line.push_numbers(&[offset]);
+    line
+}
+
 fn put_reply(line: &mut Line, reply: Reply)
     requires { length line.old + reply_length ≤ line_length }
     ensures { Puts reply_length line.old (32 ∷ reply_text (said_reply reply)) line.new }
 {
     match reply {
-        Reply::Answered(answer) => put_answer(line, answer),
+        Reply::Answered(decoded) => put_answer(line, Answer::from(decoded)),
         Reply::Noted => line.push(b" gap"),
         Reply::Cleared => line.push(b" reset"),
         Reply::Started => line.push(b" start"),
     }
 }
 
-fn put_answer(line: &mut Line, answer: Result<Frame, DecodeError>)
+fn put_answer(line: &mut Line, answer: Answer)
     requires { length line.old + reply_length ≤ line_length }
-    ensures { Puts reply_length line.old (32 ∷ answer_text (said_decoded answer)) line.new }
+    ensures { Puts reply_length line.old (32 ∷ answer_text (said_answer answer)) line.new }
 {
-    match answer {
-        Ok(frame) => {
-            line.push(b" ok");
-            line.push_numbers(&[
-                frame.objects as u64,
-                frame.blocks as u64,
-                frame.unsettled as u64,
-            ]);
-        }
-        Err(DecodeError::Refused(refusal)) => {
-            line.push(b" no");
-            line.push_numbers(&[
-                refusal.cause.number() as u64,
-                refusal.context as u64,
-                refusal.place.0 as u64,
-                refusal.missing as u64,
-            ]);
-        }
-        // Of what was not read the number alone is told.
-        Err(DecodeError::Unread(fault)) => {
-            line.push(b" no");
-            line.push_numbers(&[fault.number() as u64, 0, 0, 0]);
-        }
+    if answer.number == ACCEPTED {
+        line.push(b" ok");
+        line.push_numbers(&[answer.objects, answer.blocks, answer.unsettled]);
+    } else {
+        line.push(b" no");
+        line.push_numbers(&[answer.number, answer.context, answer.place, answer.missing]);
     }
 }
 

@@ -6,7 +6,7 @@ use Rattle.journals.proofs.lines.put_reply.Goals as goal
 
 pub returns-in-Answered : goal.returns-in-Answered
 unfolding reply_text
-returns-in-Answered c = rw c.in-Answered.is c.put_answer.ensures
+returns-in-Answered c = rw (c.in-Answered.is, ← c.from.ensures) c.put_answer.ensures
 
 pub returns-in-Noted : goal.returns-in-Noted
 unfolding reply_text

@@ -1,6 +1,5 @@
 // Bytes of the input that are not used yet.
 ghost use Rattle.std.specs.Prelude.{◌≡◌, ◌-◌, ◌<◌, ◌≤◌, ℕ, List, [], length, take, drop};
-ghost use Rattle.journals.specs.Promises.{record_limit};
 ghost use Rattle.journal.specs.Reads.{Arrives};
 
 use std::io;
@@ -52,7 +51,7 @@ impl Arrived {
 
     // Reads once, and answers how many bytes came: none at the end, so there has to be room for some.
     pub fn read_from<R: Read>(&mut self, input: &mut R) -> io::Result<usize>
-        requires { length self.old < record_limit }
+        requires { length self.old < 131078 }
         ensures { Arrives self.old result self.new }
     {
         self.bytes.copy_within(self.from..self.to, 0);

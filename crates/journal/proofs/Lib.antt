@@ -3,3 +3,4 @@ pub mod Arriving
 pub mod Stepping
 pub mod Stages
 pub mod Whole
+pub mod Idle

@@ -1,6 +1,7 @@
 -- Laws that stand on several functions; callers cite Running and those on determinacy.
 pub mod Stepping
 pub mod Turning
+pub mod Padding
 pub mod Putting
 pub mod Decimal
 pub mod AnswerTexts

@@ -4,5 +4,6 @@ pub mod Promises
 pub mod Turns
 pub mod Texts
 pub mod Buffers
+pub mod Padded
 pub mod Prints
 pub mod Runs

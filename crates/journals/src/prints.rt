@@ -9,7 +9,7 @@ use crate::records::Pause;
 use crate::turns::advance;
 
 // The line of a record, and how many bytes the record has.
-#[derive(Drop)]
+#[derive(Clone, Copy)]
 pub struct Printed {
     pub line: Line,
     pub used: usize,

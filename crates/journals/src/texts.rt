@@ -2,11 +2,12 @@
 ghost use Rattle.std.specs.Prelude.{◌≡◌, ◌+◌, ◌*◌, ◌≤◌, List, length, take, [], ◌++◌, ℕ};
 ghost use Rattle.standard.specs.Journal.{decimal, spaced};
 ghost use Rattle.journals.specs.Texts.{Puts, Appended};
+ghost use Rattle.journals.specs.Padded.{Padded, padded, text_length, bytes-back, length-back};
 
 use std::marker::Model;
 
-// In a contract it is the bytes that were put.
-#[derive(Drop)]
+// In a contract it is the bytes that were put. Behind them stand zeros, so that they tell the whole array.
+#[derive(Clone, Copy)]
 pub struct Text<const N: usize> {
     bytes: [u8; N],
     length: usize,
@@ -17,7 +18,11 @@ impl<const N: usize> Model for Text<N> {
 
     ghost view = { λ t. take t.length t.bytes };
 
-    ghost invariant = { λ t. t.length ≤ N };
+    ghost invariant = { λ t. (t.length ≤ N) × Padded N t.length t.bytes };
+
+    ghost inverse = { λ s. record { bytes = padded N s; length = text_length s } };
+
+    ghost inverse_ok = { λ t h i. record { bytes = bytes-back h.0 h.1 i; length = length-back h.0 h.1 i } };
 }
 
 impl<const N: usize> Text<N> {
@@ -47,6 +52,7 @@ impl<const N: usize> Text<N> {
     pub fn clear(&mut self)
         ensures { self.new ≡ [] }
     {
+        self.bytes[..self.length].fill(0);
         self.length = 0;
     }
 

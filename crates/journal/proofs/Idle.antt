@@ -1,5 +1,5 @@
 -- A play that does nothing breaks the promise: 2^64 - 1 steps use a record or leave bytes, and a last line is not empty.
-use Rattle.std.proofs.Common.{◌≡◌, ℕ, zero, suc, ◌+◌, ◌-◌, ◌^◌, ◌<◌, ◌≤◌, List, [], ◌∷◌, ◌++◌, length, Ok, refl, ap, ◌∙◌, length-append, arith}
+use Rattle.std.proofs.Common.{◌≡◌, ℕ, suc, ◌+◌, ◌^◌, ◌<◌, ◌≤◌, List, [], length, Ok, refl, ap, ◌∙◌, length-append, arith}
 use native.Mathlib.Nat.{mod-eq_of_lt}
 use Rattle.standard.specs.Journal.{last_line}
 use Rattle.journals.specs.Texts.{ending_text}

@@ -5,7 +5,7 @@ ghost use Rattle.journal.specs.Steps.{standing, Begins, Stopped, ReadOn, Turned,
 
 use crate::input::Arrived;
 use crate::output::{Lines, emit, flush};
-use journals::lines::{Ending, put_last};
+use journals::lines::{Ending, Line, put_last};
 use journals::records::Pause;
 use journals::tables::Tables;
 use std::io;
@@ -54,15 +54,16 @@ impl Player {
         ensures { Turned (standing self.old) self.old.lines result (standing self.new) self.new.lines }
     {
         let number = self.records.wrapping_add(1);
+        let mut line = Line::new();
         match self
             .tables
-            .print_next(self.arrived.unused(), number, self.offset)
+            .print_into(self.arrived.unused(), number, self.offset, &mut line)
         {
-            Ok(printed) => {
-                self.arrived.use_up(printed.used);
+            Ok(used) => {
+                self.arrived.use_up(used);
                 self.records = number;
-                self.offset = self.offset.wrapping_add(printed.used as u64);
-                emit(output, &mut self.lines, &printed.line);
+                self.offset = self.offset.wrapping_add(used as u64);
+                emit(output, &mut self.lines, &line);
                 Ok(true)
             }
             Err(Pause::More) => self.read_on(input, output),

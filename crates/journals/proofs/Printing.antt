@@ -4,7 +4,7 @@ use Rattle.standard.specs.Journal.{line}
 use Rattle.journals.specs.Say.{said_reply}
 use Rattle.journals.specs.Turns.{Turned, TurnLeft}
 use Rattle.journals.specs.Texts.{line_length, Puts}
-use Rattle.journals.specs.Prints.{PrintLeft}
+use Rattle.journals.specs.Prints.{PrintLeft, printed_in}
 use Rattle.journals.specs.declared.records.Pause.{Pause}
 use Rattle.journals.specs.declared.records.Pause.TheVariants.{More, Unknown}
 use Rattle.journals.specs.declared.turns.Turn.{Turn}
@@ -29,6 +29,11 @@ module _ (number offset : ℕ) {d : Turned} {s : List ℕ} {r st b : List ℤ} {
   waits_or_stops Unknown p =
       record { answer = rw (← p.said); inside = tt; retained = p.retained; start = p.start; blocks = p.blocks; timings = p.timings }
 
-  pub printed-pause : {e : Pause} {y : Result Printed Pause} → TurnLeft d s (Err e) r st b t → IsErrAnd y (λ f. f ≡ e) → PrintLeft number offset d s y r st b t
-  printed-pause {y = Ok x} p h = absurd h
-  printed-pause {y = Err f} p h = rw h (waits_or_stops _ p)
+  pub printed-into : {e : Pause} (text : List ℕ) (y : Result ℕ Pause) → TurnLeft d s (Err e) r st b t → IsErrAnd y (λ f. f ≡ e)
+      → PrintLeft number offset d s (printed_in text y) r st b t
+  printed-into text (Ok x) p h = absurd h
+  printed-into text (Err f) p h = rw h (waits_or_stops _ p)
+
+  pub handed-on : {e : Pause} {y : Result Printed Pause} → PrintLeft number offset d s (Err e) r st b t → IsErrAnd y (λ f. f ≡ e) → PrintLeft number offset d s y r st b t
+  handed-on {y = Ok x} p h = absurd h
+  handed-on {y = Err f} p h = rw h p

@@ -20,6 +20,11 @@ Inside n (Ok x) = (0 < x.used) × (x.used ≤ n) × (length x.line ≤ line_leng
 Inside n (Err More) = n < record_limit
 Inside n (Err Unknown) = Unit {0}
 
+-- a line that was lent, and how many bytes its record has
+abbrev pub printed_in : List ℕ → Result ℕ Pause → Result Printed Pause
+printed_in line (Ok used) = Ok (record { line = line; used = used })
+printed_in line (Err e) = Err e
+
 pub record PrintLeft (number offset : ℕ) (d : Turned) (arrived : List ℕ) (x : Result Printed Pause) (r s b : List ℤ) (t : List ℕ) : Type 0 where
   pub answer : x ≡ printed_of number offset d.happened
   pub inside : Inside (length arrived) x

@@ -1,5 +1,5 @@
 // Replies to lines of text.
-ghost use Rattle.std.specs.Prelude.{◌+◌, ◌≤◌, length, [], ◌∷◌, ◌++◌};
+ghost use Rattle.std.specs.Prelude.{◌≡◌, ◌+◌, ◌≤◌, length, [], ◌∷◌, ◌++◌};
 ghost use Rattle.standard.specs.Journal.{decimal, spaced, answered, reply_text, answer_text, line};
 ghost use Rattle.journals.specs.Say.{said_answer, said_reply};
 ghost use Rattle.journals.specs.Texts.{Puts, reply_length, head_length, line_length, ending_text};
@@ -25,17 +25,27 @@ pub enum Ending {
 pub fn put_line(number: u64, offset: u64, reply: Reply) -> Line
     ensures { Puts line_length [] (line number offset (said_reply reply)) result }
 {
-    let mut line = put_head(number, offset);
-    put_reply(&mut line, reply);
-    line.push(b"\n");
+    let mut line = Line::new();
+    write_line(&mut line, number, offset, reply);
     line
+}
+
+// The same, where the line is to stay: one that is handed back is copied on its way.
+pub(crate) fn write_line(out: &mut Line, number: u64, offset: u64, reply: Reply)
+    requires { out.old ≡ [] }
+    ensures { Puts line_length [] (line number offset (said_reply reply)) out.new }
+{
+    put_head(out, number, offset);
+    put_reply(out, reply);
+    out.push(b"\n");
 }
 
 // The line of an answer whose numbers may come from no decoding.
 pub fn put_answer_line(number: u64, offset: u64, answer: Answer) -> Line
     ensures { Puts line_length [] (line number offset (answered (said_answer answer))) result }
 {
-    let mut line = put_head(number, offset);
+    let mut line = Line::new();
+    put_head(&mut line, number, offset);
     put_answer(&mut line, answer);
     line.push(b"\n");
     line
@@ -54,13 +64,12 @@ pub fn put_last(records: u64, ending: Ending) -> Line
 }
 
 // Each line of a record begins with its number and its offset.
-fn put_head(number: u64, offset: u64) -> Line
-    ensures { Puts head_length [] (decimal number ++ spaced (offset ∷ [])) result }
+fn put_head(line: &mut Line, number: u64, offset: u64)
+    requires { line.old ≡ [] }
+    ensures { Puts head_length [] (decimal number ++ spaced (offset ∷ [])) line.new }
 {
-    let mut line = Line::new();
     line.push_decimal(number);
     line.push_numbers(&[offset]);
-    line
 }
 
 fn put_reply(line: &mut Line, reply: Reply)

@@ -2,9 +2,10 @@
 ghost use Rattle.standard.specs.Journal.{step};
 ghost use Rattle.oamd.specs.Promises.{lent};
 ghost use Rattle.journals.specs.Turns.{turn_on};
-ghost use Rattle.journals.specs.Prints.{PrintLeft};
+ghost use Rattle.std.specs.Prelude.{◌≡◌, []};
+ghost use Rattle.journals.specs.Prints.{PrintLeft, printed_in};
 
-use crate::lines::{Line, put_line};
+use crate::lines::{Line, write_line};
 use crate::records::Pause;
 use crate::turns::advance;
 
@@ -26,9 +27,28 @@ pub fn print_next(
 ) -> Result<Printed, Pause>
     ensures { PrintLeft number offset (turn_on (lent retained.old start.old blocks.old timings.old) (step arrived.now)) arrived.now result retained.new start.new blocks.new timings.new }
 {
+    let mut line = Line::new();
+    let used = print_into(
+        arrived, number, offset, retained, start, blocks, timings, &mut line,
+    )?;
+    Ok(Printed { line, used })
+}
+
+// The same, into a line that is lent empty: a line that is handed back is copied on its way.
+pub fn print_into(
+    arrived: &[u8],
+    number: u64,
+    offset: u64,
+    retained: &mut [i16],
+    start: &mut [i16],
+    blocks: &mut [i16],
+    timings: &mut [u16],
+    line: &mut Line,
+) -> Result<usize, Pause>
+    requires { line.old ≡ [] }
+    ensures { PrintLeft number offset (turn_on (lent retained.old start.old blocks.old timings.old) (step arrived.now)) arrived.now (printed_in line.new result) retained.new start.new blocks.new timings.new }
+{
     let turn = advance(arrived, retained, start, blocks, timings)?;
-    Ok(Printed {
-        line: put_line(number, offset, turn.reply),
-        used: turn.used,
-    })
+    write_line(line, number, offset, turn.reply);
+    Ok(turn.used)
 }

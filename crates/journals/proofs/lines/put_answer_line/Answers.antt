@@ -5,4 +5,4 @@ use Rattle.journals.proofs.lines.put_answer_line.Goals as goal
 
 pub returns : goal.returns
 unfolding line reply_text
-returns c = puts-more (puts-more c.put_head-line.ensures c.put_answer.ensures) (puts c.push.ensures)
+returns c = puts-more (puts-more c.put_head.ensures c.put_answer.ensures) (puts c.push.ensures)

@@ -9,9 +9,17 @@ fn print<W: Write>(output: &mut W, line: &Line) {
     let _ = output.write_all(line.as_bytes());
 }
 
+// Written at once with its newline, as each line is.
+fn heading(title: &str) -> Line {
+    let mut line = Line::new();
+    line.append(title.as_bytes());
+    line.append(b"\n");
+    line
+}
+
 // Each turn but the last uses two bytes at least, so as many turns as bytes, and one, suffice.
 pub fn show<W: Write>(output: &mut W, title: &str, journal: &[u8]) {
-    let _ = writeln!(output, "{title}");
+    print(output, &heading(title));
     let mut tables = Tables::new();
     let mut rest = journal;
     let mut records = 0u64;

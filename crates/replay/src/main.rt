@@ -20,8 +20,9 @@ use std::io::{ErrorKind, Read};
 fn payload<R: Read>(input: &mut R, tally: &mut Tally, tables: &mut Tables) -> io::Result<()> {
     let mut payload = [0u8; LONGEST_PAYLOAD];
     let mut answer = [0u8; LONGEST_ANSWER];
-    let payload_length = u16::from_be_bytes(list::bytes(input)?) as usize;
-    let answer_length = u16::from_be_bytes(list::bytes(input)?) as usize;
+    let [p0, p1, a0, a1] = list::bytes::<R, 4>(input)?;
+    let payload_length = u16::from_be_bytes([p0, p1]) as usize;
+    let answer_length = u16::from_be_bytes([a0, a1]) as usize;
     let payload = list::front(input, &mut payload, payload_length)?;
     let answer = list::front(input, &mut answer, answer_length)?;
     payloads::replay(tally, payload, answer, tables);
@@ -32,7 +33,6 @@ fn payload<R: Read>(input: &mut R, tally: &mut Tally, tables: &mut Tables) -> io
 fn replay<R: Read>(input: &mut R, tally: &mut Tally) -> io::Result<()> {
     let mut tables = Tables::new();
     for _ in 0..u64::MAX {
-        tables.fill();
         match u8::from_be_bytes(list::bytes(input)?) {
             b'S' => tally.record(Record::Sequence),
             b'B' => retained::start(tally, &mut tables.retained),

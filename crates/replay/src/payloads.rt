@@ -84,6 +84,7 @@ fn accepted(tally: &mut Tally, answer: &[u8], head: Head, tables: &Tables) {
 }
 
 pub fn replay(tally: &mut Tally, payload: &[u8], answer: &[u8], tables: &mut Tables) {
+    tables.fill();
     let before = tables.retained.numbers;
     let given = Head::from(tables.decode(payload));
     let listed = Head::listed(answer);

@@ -3,11 +3,12 @@ use crate::tables::{RETAINED_LENT, Retained, renewed};
 use crate::tally::{Part, Record, Tally};
 use bits::Fault;
 use rows::calls;
-use rows::numbers::DOUBT;
+use rows::numbers::{DOUBT, RETAINED_LENGTH};
 
 // All that is needed becomes 0.
 pub fn start(tally: &mut Tally, retained: &mut Retained) {
     tally.record(Record::Start);
+    retained.fill(RETAINED_LENGTH);
     let wanted = renewed().numbers;
     called(tally, retained, calls::programme_start, &wanted);
 }
@@ -15,6 +16,7 @@ pub fn start(tally: &mut Tally, retained: &mut Retained) {
 // The same, but for the doubt.
 pub fn reset(tally: &mut Tally, retained: &mut Retained) {
     tally.record(Record::Reset);
+    retained.fill(RETAINED_LENGTH);
     let mut wanted = renewed().numbers;
     wanted[DOUBT] = 1;
     called(tally, retained, calls::reset, &wanted);
@@ -23,6 +25,7 @@ pub fn reset(tally: &mut Tally, retained: &mut Retained) {
 // The doubt becomes 1, and nothing else changes.
 pub fn gap(tally: &mut Tally, retained: &mut Retained) {
     tally.record(Record::Gap);
+    retained.fill(RETAINED_LENGTH);
     let mut wanted = retained.numbers;
     wanted[DOUBT] = 1;
     called(tally, retained, calls::gap, &wanted);

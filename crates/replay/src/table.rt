@@ -29,17 +29,22 @@ impl<T: Copy + Default + PartialEq, const LENT: usize> Table<T, LENT> {
 
     // Numbers from `from` on become the sentinel. The library's `fill` would ask that a clone of `T` cannot fail.
     pub fn fill(&mut self, from: usize) {
-        for number in self.numbers.iter_mut().skip(from) {
-            *number = self.sentinel;
+        let sentinel = self.sentinel;
+        if let Some(numbers) = self.numbers.get_mut(from..) {
+            for number in numbers {
+                *number = sentinel;
+            }
         }
     }
 
     // All numbers of a range should be this value.
     fn all(&self, tally: &mut Tally, range: Range<usize>, value: T) {
-        let numbers = self.numbers.iter().enumerate().take(range.end);
-        for (index, number) in numbers.skip(range.start) {
-            if *number != value {
-                tally.differs(self.part, index);
+        let first = range.start;
+        if let Some(numbers) = self.numbers.get(range) {
+            for (index, number) in numbers.iter().enumerate() {
+                if *number != value {
+                    tally.differs(self.part, first + index);
+                }
             }
         }
     }

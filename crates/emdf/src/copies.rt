@@ -11,9 +11,19 @@ pub fn copy_bytes(container: &[u8], from: usize, buffer: &mut [u8])
     let end = first + buffer.len();
     let shift = from % 8;
     if shift == 0 {
-        buffer.copy_from_slice(&container[first..end]);
+        copy(&container[first..end], buffer);
     } else {
         copy_shifted(&container[first..end + 1], shift, buffer);
+    }
+}
+
+// Not `copy_from_slice`, which would need a memmove from outside.
+fn copy(from: &[u8], to: &mut [u8])
+    requires { length from.now ≡ length to.old }
+    ensures { to.new ≡ from.now }
+{
+    for (index, byte) in from.iter().enumerate() {
+        to[index] = *byte;
     }
 }
 

@@ -13,7 +13,7 @@ ghost use Rattle.rows.specs.Kinds.{kind_said};
 use crate::tables::Held;
 use rows::numbers::{DOUBT, KIND, PRIORITY_LIMIT, RETAINED_HEAD, ROW_WIDTH, SETTLED, UNSETTLED};
 use rows::row::{Kind, Row, default_picture};
-use rows::table::put_row;
+use rows::table::{copy, put_row};
 
 #[tactic(auto, using(rows::proofs::Tests::back), unfolding(standard::specs::Meaning::start_rows, standard::specs::Tables::state_of, standard::specs::Numbers::retained_length))]
 pub fn write_starts(held: Held, kinds: &[Kind], start: &mut [i16])
@@ -37,7 +37,10 @@ pub fn write_held(held: Held, start: &mut [i16])
     let doubt = held.table[DOUBT];
     if doubt == 0 {
         let end = RETAINED_HEAD + count * ROW_WIDTH;
-        start[..count * ROW_WIDTH].copy_from_slice(&held.table[RETAINED_HEAD..end]);
+        copy(
+            &held.table[RETAINED_HEAD..end],
+            &mut start[..count * ROW_WIDTH],
+        );
         return;
     }
     let rows = held.rows();

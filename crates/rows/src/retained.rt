@@ -5,6 +5,7 @@ ghost use Rattle.standard.specs.Calls.{over};
 ghost use Rattle.rows.specs.Retained.{Countable, Counted, Keepable};
 
 use crate::numbers::{COUNT, DOUBT, RETAINED_HEAD, RETAINED_LENGTH, ROW_WIDTH};
+use crate::table::copy;
 
 // A count that is known to be in form.
 #[tactic(auto, unfolding(standard::specs::Tables::count_of, standard::specs::Numbers::object_limit))]
@@ -25,6 +26,9 @@ pub fn keep_rows(retained: &mut [i16], blocks: &[i16], from: usize, count: usize
     let end = RETAINED_HEAD + count * ROW_WIDTH;
     retained[COUNT] = count as i16;
     retained[DOUBT] = 0;
-    retained[RETAINED_HEAD..end].copy_from_slice(&blocks[from..from + count * ROW_WIDTH]);
+    copy(
+        &blocks[from..from + count * ROW_WIDTH],
+        &mut retained[RETAINED_HEAD..end],
+    );
     retained[end..RETAINED_LENGTH].fill(0);
 }

@@ -42,3 +42,13 @@ pub fn put_row(table: &mut [i16], at: usize, row: Row)
 {
     table[at..at + ROW_WIDTH].copy_from_slice(&<[i16; ROW_WIDTH]>::from(row));
 }
+
+// Not `copy_from_slice`, which would need a memmove from outside.
+pub fn copy(from: &[i16], to: &mut [i16])
+    requires { length from.now ≡ length to.old }
+    ensures { to.new ≡ from.now }
+{
+    for (index, number) in from.iter().enumerate() {
+        to[index] = *number;
+    }
+}

@@ -14,6 +14,7 @@ use crate::frame::Frame;
 use crate::numbers::SAMPLES_PER_JOC_FRAME;
 use crate::updates::{OamdTiming, Timings};
 use rows::numbers::ROW_WIDTH;
+use rows::table::copy;
 
 // Through a frame without blocks, until it is over.
 fn onward(going: Going) -> Option<Going>
@@ -64,7 +65,7 @@ impl Frame<'_> {
         ensures { carried.new ≡ over (rows_numbers (table_rows self.now.start.now block_rows.now self.now.objects (length self.now.timings - 1))) carried.old }
     {
         let rows = self.rows_before(block_rows);
-        carried[..rows.len()].copy_from_slice(rows);
+        copy(rows, &mut carried[..rows.len()]);
     }
 
     // The rows before the last block: the start rows, where it is the first.

@@ -16,7 +16,7 @@ returns-then-shift-eq0 c =
     let first = c.args.from / 8 in
     let long : first + n - first ≡ n = omega arith in
     let place : first * 8 ≡ c.args.from = omega arith in
-    rw (long, whole-bytes c.args.container.now (λ i. (c.type_inv.container i).fits) first n (omega arith), place) at c.copy_from_slice.ensures.after
+    rw (long, whole-bytes c.args.container.now (λ i. (c.type_inv.container i).fits) first n (omega arith), place) at c.copy.ensures
 
 pub returns-else-shift-eq0 : goal.returns-else-shift-eq0
 returns-else-shift-eq0 c = c.copy_shifted.ensures ∙ shifted-bytes _ _ _ c.requires

@@ -12,7 +12,7 @@ pub returns-then-doubt-eq0 : goal.returns-then-doubt-eq0
 unfolding row_width
 returns-then-doubt-eq0 c =
     let calm : is 0 (get_or c.args.held.table.now doubt_at (pos 0)) ≡ true = sym (bits_is 0 (get_or c.args.held.table.now doubt_at (pos 0)) (omega arith) (search rules)) ∙ eq-eqb _ _ c.if-doubt-eq0.true in
-    rw c.copy_from_slice.ensures.after (held-copied c.args.held.long c.count-count.ensures c.args.start.now calm)
+    rw c.copy.ensures (held-copied c.args.held.long c.count-count.ensures c.args.start.now calm)
 
 pub loop-object-init : goal.loop-object-init
 loop-object-init c = write-none _ _

@@ -1,5 +1,8 @@
 -- Laws of the rows of a table, each as its numbers.
-use Rattle.std.proofs.Common.{ℕ, zero, suc, ◌*◌, ◌+◌, ◌<◌, ◌≡◌, refl, ◌∙◌, List, map, get_or, take, drop, ℤ, arith}
+use Rattle.std.proofs.Common.{ℕ, zero, suc, ◌*◌, ◌+◌, ◌<◌, ◌≤◌, ◌≡◌, refl, ◌∙◌, Bool, true, false, List, [], map, length, get_or, take, drop, add-one, ℤ, arith}
+use Rattle.std.proofs.Math.ListN.{drop_of_length-le}
+use lib.Seq.{drop-cons}
+use mathlib.Core.Bool.{◌&&◌}
 use Rattle.std.proofs.lemmas.List.{take-take, drop-take}
 use Rattle.std.proofs.Math.Nat.{suc-mul, add_comm}
 use Rattle.std.specs.List.{list_all}
@@ -33,3 +36,18 @@ pub parts-form : (n : ℕ) (l : List ℤ) → list_all (λ part. row_form (row_o
 unfolding rows_of all_form
 parts-form zero l = refl
 parts-form (suc n) l = rw (parts-form n (drop row_width l))
+
+-- A test of each part in turn: what the parts that are left say
+
+module _ (test : List ℤ → Bool) (parts : List (List ℤ)) where
+  next-left : (i : ℕ) → i < length parts → list_all test (drop i parts) ≡ test (get_or parts i []) && list_all test (drop (i + 1) parts)
+  next-left i h = rw (drop-cons parts i [] h, add-one i) refl
+
+  pub passed : {all : Bool} (i : ℕ) → i < length parts → test (get_or parts i []) ≡ true → list_all test (drop i parts) ≡ all → list_all test (drop (i + 1) parts) ≡ all
+  passed i h e k = rw (next-left i h, e) at k
+
+  pub failed : {all : Bool} (i : ℕ) → i < length parts → test (get_or parts i []) ≡ false → list_all test (drop i parts) ≡ all → false ≡ all
+  failed i h e k = rw (next-left i h, e) at k
+
+  pub all-passed : {all : Bool} (i : ℕ) → length parts ≤ i → list_all test (drop i parts) ≡ all → true ≡ all
+  all-passed i h k = rw (drop_of_length-le parts h) at k

@@ -122,14 +122,18 @@ impl Row {
     }
 }
 
-// The first `count` rows may be shown. This and `rows_form` are two short chains: one function of a table and a test would be no plainer.
+// The first `count` rows may be shown. This and `rows_form` are two short loops: one function of a table and a test would be no plainer.
+// By `all` a row's tests would come apart, with a branch for each.
 pub fn all_shown(table: &[i16], count: usize) -> bool
     requires { count * row_width ≤ length table.now }
     ensures { result ≡ all_shown (rows_of count table.now) }
 {
-    parts(table, count)
-        .iter()
-        .all(|part| Row::from(part).shown_form())
+    for part in parts(table, count) {
+        if !Row::from(part).shown_form() {
+            return false;
+        }
+    }
+    true
 }
 
 #[tactic(auto, unfolding(standard::specs::Numbers::row_width, standard::specs::Numbers::retained_head))]
@@ -137,9 +141,12 @@ fn rows_form(table: &[i16], count: usize) -> bool
     requires { retained_head + count * row_width ≤ length table.now }
     ensures { result ≡ all_form (rows_of count (drop retained_head table.now)) }
 {
-    parts(&table[RETAINED_HEAD..], count)
-        .iter()
-        .all(|part| Row::from(part).row_form())
+    for part in parts(&table[RETAINED_HEAD..], count) {
+        if !Row::from(part).row_form() {
+            return false;
+        }
+    }
+    true
 }
 
 // The retained table. The rows are counted only once the count is known to be in form.

@@ -40,10 +40,13 @@ pub fn put_row(table: &mut [i16], at: usize, row: Row)
     requires { at + row_width ≤ length table.old }
     ensures { table.new ≡ put table.old at (row_said row) }
 {
-    table[at..at + ROW_WIDTH].copy_from_slice(&<[i16; ROW_WIDTH]>::from(row));
+    copy(
+        &<[i16; ROW_WIDTH]>::from(row),
+        &mut table[at..at + ROW_WIDTH],
+    );
 }
 
-// Not `copy_from_slice`, which would need a memmove from outside.
+// Not `copy_from_slice`, for which C's archive would need a memmove from outside.
 pub fn copy(from: &[i16], to: &mut [i16])
     requires { length from.now ≡ length to.old }
     ensures { to.new ≡ from.now }

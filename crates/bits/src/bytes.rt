@@ -12,11 +12,13 @@ pub fn bits_from(payload: &[u8], from: usize, width: usize) -> u32
     if width == 0 {
         return 0;
     }
-    let last = (from + width - 1) / 8;
+    let first = from / 8;
+    // Counted from the first byte on, so that it is seen to be three at most.
+    let count = (from % 8 + width + 7) / 8;
     // Known before the bytes are there.
     let behind = 7 - (from + width - 1) % 8;
     let mut value = 0;
-    for index in from / 8..last + 1 {
+    for index in first..first + count {
         value = value * 256 + byte_at(payload, index) as u32;
     }
     cut(value, behind, width)

@@ -17,7 +17,7 @@ pub fn copy_bytes(container: &[u8], from: usize, buffer: &mut [u8])
     }
 }
 
-// Not `copy_from_slice`, which would need a memmove from outside.
+// Not `copy_from_slice`, for which C's archive would need a memmove from outside.
 fn copy(from: &[u8], to: &mut [u8])
     requires { length from.now ≡ length to.old }
     ensures { to.new ≡ from.now }
@@ -43,6 +43,6 @@ fn joined(high: u8, low: u8, shift: usize) -> u8
     requires { shift < 8 }
     ensures { result ≡ (high * 256 + low) / 2 ^ (8 - shift) % 256 }
 {
-    let pair = u16::from_be_bytes([high, low]);
+    let pair = u16::from(high) * 256 + u16::from(low);
     ((pair >> (8 - shift)) % 256) as u8
 }

@@ -10,6 +10,7 @@ use bits::{BitCursor, Fault, two_to};
 const LARGE: u32 = 131072;
 
 // Not as `bits` reads it: what is added to the largest value is variable bits, and no field.
+#[inline(always)]
 pub fn read_extended(bits: &mut BitCursor, width: usize) -> Result<u32, Fault>
     requires { width ≤ 11 }
     ensures { ReadsContainer (nearly (paper.extended width)) bits.old result bits.new }
@@ -22,7 +23,8 @@ pub fn read_extended(bits: &mut BitCursor, width: usize) -> Result<u32, Fault>
     Ok((value + more).min(LARGE))
 }
 
-// Not as `bits` reads it: the end alone limits the groups, and no count, so the value is kept small.
+// Not as `bits` reads it: the end alone limits the groups, and no count, so the value is kept small. As a call it would not know its width.
+#[inline(always)]
 pub fn read_variable_bits(bits: &mut BitCursor, width: usize) -> Result<u32, Fault>
     requires { width ≤ 11 }
     ensures { ReadsContainer (nearly (paper.variable width)) bits.old result bits.new }

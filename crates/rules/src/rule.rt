@@ -34,8 +34,10 @@ impl TryFrom<u32> for Rule {
     }
 }
 
+// As calls these would take and give their structs by way of memory.
 impl Rule {
     // What is carried into a frame: under rule 1 nothing, whatever is lent.
+    #[inline(always)]
     pub fn going(self, state: &[u16; 3]) -> Result<Option<Going>, Fault>
         ensures { GoingRead (rule_said self) (going_in state.now) result }
     {
@@ -46,6 +48,7 @@ impl Rule {
     }
 
     // With its rows.
+    #[inline(always)]
     pub fn carried(self, state: &[u16; 3], carried: &[i16]) -> Result<Option<Going>, Fault>
         ensures { CarriedRead (rule_said self) (going_in state.now) carried.now result }
     {
@@ -56,6 +59,7 @@ impl Rule {
     }
 
     // `remains` samples of a carried ramp are left.
+    #[inline(always)]
     pub fn test(self, timings: &Timings, remains: u32) -> Result<(), Fault>
         ensures { number_of result ≡ timing_by (rule_said self) remains timings.now }
     {
@@ -66,6 +70,7 @@ impl Rule {
     }
 
     // Behind a frame whose timings passed.
+    #[inline(always)]
     pub fn carried_on(self, frame: &Frame, going: Option<Going>) -> Option<Going>
         requires { PassedBy (rule_said self) frame.now }
         ensures { GoesOn (rule_said self) frame.now going result }

@@ -3,12 +3,13 @@ use Prim.Native.Nat.{ℕ, zero, suc, ◌+◌, ◌-◌, ◌≤◌, ◌<◌, min}
 use mathlib.Core.Path.{◌≡◌, refl, ap, sym, ◌∙◌}
 use mathlib.Core.Bool.{Bool, true, false}
 use mathlib.Core.List.{List}
-use native.Mathlib.Nat.{min-eq_left, min-eq_right, mul-le-mul_left}
+use native.Mathlib.Nat.{min-eq_left, min-eq_right, min-le_right, mul-le-mul_left}
 use native.Mathlib.Omega.{arith}
 use lib.Dec.{leb, eqb}
 use lib.Pow.{pow_pos}
 use borrow.Author.Tests.{leb-true, leb-false, ne_eqb}
-use Rattle.bits.specs.Parsed.{Parsed, got, refused, and_then, map_parsed}
+use Rattle.bits.specs.Parsed.{Parsed, got, refused, Parser, and_then, map_parsed}
+use Rattle.bits.proofs.Always.{Always, Ok}
 use Rattle.bits.proofs.ParsedLaws.{then_map}
 use Rattle.standard.specs.Container.{bits, flag, variable}
 use Rattle.emdf.specs.Say.{large, near}
@@ -92,6 +93,13 @@ pub near-variable : (w : ℕ) → (s : List ℕ) (e p : ℕ) → near (variable 
 near-variable w s e p = rw (first_then w s e p) (then_map (bits w s e p) (rest w p s e) (λ n. min n large))
 
 -- What is made of a number
+
+pub near_le : (m : Parser ℕ) → Always (λ n. n ≤ large) (λ s e p. near (m s e p))
+near_le m = record { ok = λ s e p. go (m s e p) }
+  where
+    go : (x : Parsed ℕ) → Ok (λ n. n ≤ large) (near x)
+    go (got n q) = min-le_right n large
+    go (refused r) = tt
 
 pub near-passed : (x : Parsed ℕ) → map_parsed (λ n. tt {0}) x ≡ map_parsed (λ n. tt {0}) (near x)
 near-passed (got n q) = refl

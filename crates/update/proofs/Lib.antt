@@ -1,4 +1,5 @@
 pub mod Asking
+pub mod Bounds
 pub mod Numbers
 pub mod Wording
 pub mod Steps

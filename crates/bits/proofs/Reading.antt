@@ -71,6 +71,10 @@ module _ {V A E : Type 0} {say : V → A} {why : E → Refusal} {c : BitCursor} 
   unfolding pure
   done = record { answer = refl; bytes = refl; end = refl }
 
+  -- nothing is read, and what is given says t
+  pub done_as : {a : V} {t : A} → t ≡ say a → ReadsBy say why (pure t) c (Ok a) c
+  done_as is = rw is done
+
   pub refuses : {e : E} {z : Refusal} → why e ≡ z → ReadsBy say why (refuse z) c (Err e) c
   unfolding refuse
   refuses h = record { answer = ap refused h; bytes = refl; end = refl }

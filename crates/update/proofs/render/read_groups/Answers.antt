@@ -2,7 +2,7 @@ use Rattle.std.proofs.Common.{arith}
 use Rattle.standard.specs.Updates.{groups}
 use Rattle.rows.specs.Say.{zone_said, size_said}
 use Rattle.update.specs.Say.{number_said, position_said}
-use Rattle.bits.proofs.Reading.{then, stops, done}
+use Rattle.bits.proofs.Reading.{then, stops, done_as}
 use Rattle.rows.proofs.Tests.{back}
 use Rattle.update.proofs.Asking.{asked, stands, stands_not}
 use Rattle.update.proofs.render.read_groups.Goals as goal
@@ -42,6 +42,7 @@ returns-in_err-word c =
     (then _ (asked number_said (λ p r q h. h) c.is_set-4.ensures c.in_ok-screen.ensures)
     (stops _ (stands_not {say = number_said} c.in_err-word.ensures) c.from_residual-in_err-word.ensures.1))))
 
+-- what is given says what was read, also where a `map` puts an option together anew
 pub returns : goal.returns
 unfolding groups
 returns c =
@@ -49,4 +50,4 @@ returns c =
     (then _ (asked zone_said (λ p r q h. h) c.is_set-2.ensures c.in_ok-zone.ensures)
     (then _ (asked size_said (λ p r q h. h) c.is_set-3.ensures c.in_ok-size.ensures)
     (then _ (asked number_said (λ p r q h. h) c.is_set-4.ensures c.in_ok-screen.ensures)
-    (then _ (stands {say = number_said} c.in_ok-word.ensures) (rw (back {z = c.in_ok-word.word} (omega (arith, rw c.in_ok-word.was at c.read_lock.type_inv))) done)))))
+    (then _ (stands {say = number_said} c.in_ok-word.ensures) (rw (back {z = c.in_ok-word.word} (omega (arith, rw c.in_ok-word.was at c.read_lock.type_inv))) (done_as (grind arith)))))))

@@ -2,13 +2,12 @@ use Rattle.std.proofs.Common.{◌≡◌, ℕ, ◌∙◌, Result, Err, Ok, None, 
 use Rattle.std.proofs.lemmas.List.{length-map}
 use Rattle.std.specs.Prelude.{Option}
 use Rattle.std.specs.Option.{ok_or}
-use Rattle.bits.specs.Parsed as paper
-use Rattle.bits.specs.Parsed.{invalid, pure}
-use Rattle.bits.specs.Say.{refusal, ReadsAs, ReadsBy}
+use Rattle.bits.specs.Parsed.{invalid}
+use Rattle.bits.specs.Say.{refusal, ReadsAs}
 use Rattle.bits.specs.declared.cursor.BitCursor.{BitCursor}
 use Rattle.bits.specs.declared.refusals.Refusal.{Refusal}
 use Rattle.standard.specs.Contexts as context
-use Rattle.bits.proofs.Reading.{HandsOn, falls, stops, then, next, next_stops, done, refuses}
+use Rattle.bits.proofs.Reading.{HandsOn, falls, stops, then, next, next_stops, done, done_as, refuses}
 use Rattle.standard.specs.Numbers.{row_width, object_limit, start_length}
 use Rattle.oamd.specs.Whole.{body_in, finish_in, present_in}
 use Rattle.oamd.specs.Say.{said_found}
@@ -67,9 +66,6 @@ one_found : {o : Option ℕ} (m : ℕ) {c : BitCursor} → o ≡ Some m → Read
 unfolding present_in
 one_found m e = rw e done
 
-given : {V A E : Type 0} {say : V → A} {why : E → paper.Refusal} {x : A} {a : V} {c : BitCursor} → say a ≡ x → ReadsBy say why (pure x) c (Ok a) c
-given e = rw (← e) done
-
 pub returns-in_err-blocks : goal.returns-in_err-blocks
 unfolding body_in finish_in
 returns-in_err-blocks c =
@@ -85,7 +81,7 @@ unfolding body_in finish_in
 returns c =
     record {
       reads = then _ c.in_ok-alternate_data.ensures.reads (then _ c.in_ok-count.ensures (then _ (from_starts _ _ _ c.write_starts.ensures _ _ c.requires.1.nothing c.in_ok-parse_elements.ensures) (next c.in_ok-consume_zero_padding.ensures.reads
-          (then {say = λ k. k} _ (one_found _ c.in_ok-blocks.ensures.ok_part) (given (rw (length-map, ← c.write_starts.ensures) refl))))));
+          (then {say = λ k. k} _ (one_found _ c.in_ok-blocks.ensures.ok_part) (done_as (rw (length-map, ← c.write_starts.ensures) refl))))));
       start_rest = rest_stays _ _ _ c.write_starts.ensures c.requires.0 c.requires.1.for_start;
       kept = c.in_ok-parse_elements.ensures.kept;
     }
